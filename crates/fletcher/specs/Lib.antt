@@ -1,0 +1,2 @@
+pub mod Fletcher
+pub mod Laws
