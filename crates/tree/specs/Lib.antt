@@ -1,0 +1,5 @@
+pub mod Page
+pub mod Asking
+pub mod Sound
+pub mod Examination
+pub mod Demand3
