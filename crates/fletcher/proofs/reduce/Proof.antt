@@ -4,9 +4,6 @@ use borrow.Author.Needs.{needs}
 use Rattle.fletcher.proofs.reduce.Statement.{statement}
 use Rattle.fletcher.proofs.reduce.Tie as tie
 
-cast-result : tie.Need-cast-result
-cast-result c = search needs
-
 returns : tie.Need-returns
 unfolding reduced
 returns c = simp (eq-eqb _ _ (c .if1 .taken))
@@ -16,4 +13,4 @@ unfolding reduced
 returns-2 c = simp (ne-eqb _ _ (c .if1 .left))
 
 pub reduce-spec : {M : Type 1} → statement M
-reduce-spec = tie.close (tie.spec cast-result returns returns-2)
+reduce-spec = tie.close (tie.spec (λ c. search needs) returns returns-2)

@@ -16,17 +16,8 @@ Inv-loop text t₀ i₀ t i = (i ≤ length text) × (sums t (drop i text) ≡ s
 abbrev μ-loop : tie.MeasureT-loop
 μ-loop text t₀ i₀ t i = length text - i
 
-new-requires : tie.Need-new-requires Inv-loop μ-loop
-new-requires c κs = search needs
-
 loop-holds : tie.Need-loop-holds Inv-loop μ-loop
 loop-holds c = (search needs, ap (λ (t : Sums). sums t (now (c .before .before .args .text))) (c .new .ensures))
-
-sub-loop : tie.Need-sub-loop Inv-loop μ-loop
-sub-loop c = search needs
-
-shared-slice-read-w : tie.Need-shared-slice-read-w Inv-loop μ-loop
-shared-slice-read-w c = search needs
 
 cast-w : tie.Need-cast-w Inv-loop μ-loop
 cast-w c = omega (arith, c .shared-slice-known2 .given (c .before .before .loop .i))
@@ -34,26 +25,11 @@ cast-w c = omega (arith, c .shared-slice-known2 .given (c .before .before .loop 
 mul-w : tie.Need-mul-w Inv-loop μ-loop
 mul-w c = omega (arith, c .shared-slice-known2 .given (c .before .before .loop .i))
 
-add-w : tie.Need-add-w Inv-loop μ-loop
-add-w c = search needs
-
-shared-slice-read-w-2 : tie.Need-shared-slice-read-w-2 Inv-loop μ-loop
-shared-slice-read-w-2 c = search needs
-
 cast-w-2 : tie.Need-cast-w-2 Inv-loop μ-loop
 cast-w-2 c = omega (arith, c .shared-slice-known3 .given (c .before .before .before .loop .i + 1))
 
 add-w-2 : tie.Need-add-w-2 Inv-loop μ-loop
 add-w-2 c = omega (arith, c .shared-slice-known3 .given (c .before .before .before .loop .i + 1), c .before .shared-slice-known2 .given (c .before .before .before .loop .i))
-
-word-requires : tie.Need-word-requires Inv-loop μ-loop
-word-requires c κs = search needs
-
-add-i : tie.Need-add-i Inv-loop μ-loop
-add-i c = search needs
-
-loop-less : tie.Need-loop-less Inv-loop μ-loop
-loop-less c = search needs
 
 loop-again : tie.Need-loop-again Inv-loop μ-loop
 loop-again c =
@@ -71,18 +47,18 @@ sum-words-spec =
     (tie.spec
     Inv-loop
     μ-loop
-    new-requires
+    (λ c κs. search needs)
     loop-holds
-    sub-loop
-    shared-slice-read-w
+    (λ c. search needs)
+    (λ c. search needs)
     cast-w
     mul-w
-    add-w
-    shared-slice-read-w-2
+    (λ c. search needs)
+    (λ c. search needs)
     cast-w-2
     add-w-2
-    word-requires
-    add-i
-    loop-less
+    (λ c κs. search needs)
+    (λ c. search needs)
+    (λ c. search needs)
     loop-again
     returns)

@@ -1,0 +1,44 @@
+use Prim.Native.Nat.{_-_}
+use mathlib.Core.Path.{_≡_, sym, _∙_}
+use native.Mathlib.Omega.{arith}
+use borrow.Author.Tests.{le-leb, lt-leb}
+use denote.Ref.{now}
+use lib.ListN.{length, drop}
+use Rattle.text.specs.Text.{every, isPrintable}
+use Rattle.text.specs.Laws.{every-on, every-stop, every-end}
+use borrow.Author.Needs.{needs}
+use Rattle.text.proofs.all_printable.Statement.{statement}
+use Rattle.text.proofs.all_printable.Tie as tie
+
+abbrev Inv-loop : tie.InvT-loop
+Inv-loop s i₀ i = (every isPrintable (drop i s) ≡ every isPrintable s)
+
+abbrev μ-loop : tie.MeasureT-loop
+μ-loop s i₀ i = length s - i
+
+returns : tie.Need-returns Inv-loop μ-loop
+returns c = sym (every-stop isPrintable (now (c .before .before .before .before .args .s)) (c .before .before .before .loop .i) (omega arith) (rw (lt-leb _ _ (c .if1 .taken)))) ∙ c .before .before .before .loop .inv
+
+returns-2 : tie.Need-returns-2 Inv-loop μ-loop
+returns-2 c = sym (every-stop isPrintable (now (c .before .before .before .before .before .args .s)) (c .before .before .before .before .loop .i) (omega arith) (rw (le-leb _ _ (c .before .if1 .left), lt-leb _ _ (c .if2 .taken)))) ∙ c .before .before .before .before .loop .inv
+
+loop-again : tie.Need-loop-again Inv-loop μ-loop
+loop-again c = sym (every-on isPrintable (now (c .before .before .before .before .before .args .s)) (c .before .before .before .before .loop .i) (omega arith) (rw (le-leb _ _ (c .before .if1 .left), le-leb _ _ (c .if2 .left)))) ∙ c .before .before .before .before .loop .inv
+
+returns-3 : tie.Need-returns-3 Inv-loop μ-loop
+returns-3 c = sym (every-end isPrintable (now (c .before .before .args .s)) (c .before .loop .i) (omega arith)) ∙ c .before .loop .inv
+
+pub all-printable-spec : {M : Type 1} → statement M
+all-printable-spec =
+    tie.close
+    (tie.spec
+    Inv-loop
+    μ-loop
+    (λ c. search needs)
+    (λ c. search needs)
+    returns
+    returns-2
+    (λ c. search needs)
+    (λ c. search needs)
+    loop-again
+    returns-3)

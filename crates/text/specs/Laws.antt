@@ -1,0 +1,131 @@
+-- Laws of runs of bytes.
+use Prim.Native.Nat.{ℕ, suc, _+_, _<_, _≤_}
+use mathlib.Core.Path.{_≡_, refl, sym, _∙_}
+use mathlib.Core.Bool.{Bool, true, false, cond, not}
+use mathlib.Core.List.{List, [], _∷_}
+use native.Mathlib.Numerals.{add-one}
+use native.Mathlib.Omega.{arith}
+use lib.Dec.{eqb, eqb·suc-suc, eqb·zero-suc}
+use lib.ListN.{length, getD, take, drop, drop-of-length-le}
+use lib.Seq.{drop-cons}
+use Rattle.text.specs.Text.{span, every, isNot, split, toFirst}
+
+-- ## A run from an index on, as a loop goes through it
+module _ (P : ℕ → Bool) (s : List ℕ) (i : ℕ) where
+  pub span-on : i < length s → P (getD s i 0) ≡ true → span P (drop i s) ≡ suc (span P (drop (i + 1) s))
+  unfolding span
+  span-on h e = rw (drop-cons s i 0 h, e, add-one)
+
+  pub span-stop : i < length s → P (getD s i 0) ≡ false → span P (drop i s) ≡ 0
+  unfolding span
+  span-stop h e = rw (drop-cons s i 0 h, e)
+
+  pub span-end : length s ≤ i → span P (drop i s) ≡ 0
+  unfolding span
+  span-end h = rw (drop-of-length-le s h)
+
+  pub every-on : i < length s → P (getD s i 0) ≡ true → every P (drop i s) ≡ every P (drop (i + 1) s)
+  unfolding every
+  every-on h e = rw (drop-cons s i 0 h, e, add-one)
+
+  pub every-stop : i < length s → P (getD s i 0) ≡ false → every P (drop i s) ≡ false
+  unfolding every
+  every-stop h e = rw (drop-cons s i 0 h, e)
+
+  pub every-end : length s ≤ i → every P (drop i s) ≡ true
+  unfolding every
+  every-end h = rw (drop-of-length-le s h)
+
+-- ## A run and its text
+module _ (P : ℕ → Bool) where
+  pub span-le : (s : List ℕ) → span P s ≤ length s
+  unfolding span
+  span-le [] = omega arith
+  span-le (x ∷ s) = go (P x) (span-le s)
+    where
+      go : (t : Bool) → span P s ≤ length s → cond t (suc (span P s)) 0 ≤ suc (length s)
+      go true h = omega arith
+      go false h = omega arith
+
+  -- all bytes have the property exactly where the run is the whole text
+  pub every-span : (s : List ℕ) → every P s ≡ eqb (span P s) (length s)
+  unfolding span every
+  every-span [] = refl
+  every-span (x ∷ s) = go (P x) (every-span s)
+    where
+      go : (t : Bool) → every P s ≡ eqb (span P s) (length s) → cond t (every P s) false ≡ eqb (cond t (suc (span P s)) 0) (suc (length s))
+      go true ih = ih ∙ sym (eqb·suc-suc (span P s) (length s))
+      go false ih = sym (eqb·zero-suc (length s))
+
+  -- the bytes of the run have it
+  pub every-run : (s : List ℕ) → every P (take (span P s) s) ≡ true
+  unfolding span every
+  every-run [] = refl
+  every-run (x ∷ s) = go (P x) refl (every-run s)
+    where
+      go : (t : Bool) → P x ≡ t → every P (take (span P s) s) ≡ true → every P (take (cond t (suc (span P s)) 0) (x ∷ s)) ≡ true
+      go true e ih = rw e ih
+      go false e ih = refl
+
+  -- what follows the run, if anything, has it not
+  pub span-next : (s : List ℕ) → span P s < length s → P (getD s (span P s) 0) ≡ false
+  unfolding span
+  span-next [] h = absurd (omega arith)
+  span-next (x ∷ s) h = go (P x) refl (span-next s) h
+    where
+      go : (t : Bool) → P x ≡ t → (span P s < length s → P (getD s (span P s) 0) ≡ false) →
+          cond t (suc (span P s)) 0 < suc (length s) → P (getD (x ∷ s) (cond t (suc (span P s)) 0) 0) ≡ false
+      go true e ih h = ih (omega arith)
+      go false e ih h = e
+
+-- ## The run of a narrower class: letters before a colon, digits before a comma
+module _ (P Q : ℕ → Bool) (narrower : (x : ℕ) → P x ≡ true → Q x ≡ true) where
+  pub span-narrower : (s : List ℕ) → span P s ≤ span Q s
+  unfolding span
+  span-narrower [] = omega arith
+  span-narrower (x ∷ s) = go (P x) refl (Q x) refl (span-narrower s)
+    where
+      go : (t : Bool) → P x ≡ t → (u : Bool) → Q x ≡ u → span P s ≤ span Q s → cond t (suc (span P s)) 0 ≤ cond u (suc (span Q s)) 0
+      go true e true f h = omega arith
+      go true e false f h = absurd (let g = narrower x e in let z : _≡_ {A = ℕ} 0 1 = cc in omega arith)
+      go false e u f h = omega arith
+
+  -- the wider run has the narrower property throughout exactly where the two runs are equal
+  pub every-narrower : (s : List ℕ) → every P (take (span Q s) s) ≡ eqb (span P s) (span Q s)
+  unfolding span every
+  every-narrower [] = refl
+  every-narrower (x ∷ s) = go (P x) refl (Q x) refl (every-narrower s)
+    where
+      go : (t : Bool) → P x ≡ t → (u : Bool) → Q x ≡ u → every P (take (span Q s) s) ≡ eqb (span P s) (span Q s) →
+          every P (take (cond u (suc (span Q s)) 0) (x ∷ s)) ≡ eqb (cond t (suc (span P s)) 0) (cond u (suc (span Q s)) 0)
+      go true e true f ih = rw e (ih ∙ sym (eqb·suc-suc (span P s) (span Q s)))
+      go true e false f ih = absurd (let g = narrower x e in let z : _≡_ {A = ℕ} 0 1 = cc in omega arith)
+      go false e true f ih = rw e (sym (eqb·zero-suc (span Q s)))
+      go false e false f ih = refl
+
+-- ## Parts between separators
+-- the last part
+pub split-last : (b : ℕ) (s : List ℕ) → span (isNot b) s ≡ length s → split b s ≡ s ∷ []
+unfolding span split
+split-last b [] h = refl
+split-last b (x ∷ s) h = go (eqb x b) refl (split-last b s) h
+  where
+    go : (t : Bool) → eqb x b ≡ t → (span (isNot b) s ≡ length s → split b s ≡ s ∷ []) →
+        cond (not t) (suc (span (isNot b) s)) 0 ≡ suc (length s) → cond t ([] ∷ split b s) (toFirst x (split b s)) ≡ (x ∷ s) ∷ []
+    go true e ih h = absurd (omega arith)
+    go false e ih h = rw (ih (omega arith))
+
+-- a part that others follow
+pub split-more : (b : ℕ) (s : List ℕ) → span (isNot b) s < length s →
+    split b s ≡ take (span (isNot b) s) s ∷ split b (drop (suc (span (isNot b) s)) s)
+unfolding span split
+split-more b [] h = absurd (omega arith)
+split-more b (x ∷ s) h = go (eqb x b) refl (split-more b s) h
+  where
+    go : (t : Bool) → eqb x b ≡ t →
+        (span (isNot b) s < length s → split b s ≡ take (span (isNot b) s) s ∷ split b (drop (suc (span (isNot b) s)) s)) →
+        cond (not t) (suc (span (isNot b) s)) 0 < suc (length s) →
+        cond t ([] ∷ split b s) (toFirst x (split b s)) ≡
+        take (cond (not t) (suc (span (isNot b) s)) 0) (x ∷ s) ∷ split b (drop (suc (cond (not t) (suc (span (isNot b) s)) 0)) (x ∷ s))
+    go true e ih h = refl
+    go false e ih h = rw (ih (omega arith))
