@@ -1,0 +1,48 @@
+-- Laws of positions: making and taking apart are inverse.
+use Prim.Native.Nat.{ℕ, _+_, _*_, _/_, _%_, _^_, _<_, _≤_}
+use mathlib.Core.Path.{_≡_, ap}
+use native.Mathlib.Nat.{div-div-eq-div-mul, mul-le-mul}
+use native.Mathlib.Omega.{arith}
+use borrow.Author.Tests.{lt-ltb}
+use lib.Pow.{pow-mono}
+use Rattle.position.specs.declared.Position.{Position}
+use Rattle.position.specs.declared.Made.{Made}
+use Rattle.position.specs.declared.Made.the-variants.{At, OutOfRange}
+use Rattle.position.specs.Position.{chunks, offsets, codes, types, chunkOf, offsetOf, codeOf, typeOf, positionOf, madeOf}
+
+-- the fields of any 64 bits make them again
+pub position-of-fields : (p : ℕ) → positionOf (chunkOf p) (offsetOf p) (codeOf p) (typeOf p) ≡ p
+position-of-fields p = omega (arith, div-div-eq-div-mul p types codes, div-div-eq-div-mul p (types * codes) offsets)
+
+pub made-of-fields : (p : ℕ) → p < 2 ^ 64 → madeOf (chunkOf p) (offsetOf p) (codeOf p) (typeOf p) ≡ At (record { bits = p })
+unfolding madeOf
+made-of-fields p h =
+    rw (
+      lt-ltb (chunkOf p) chunks (omega arith),
+      lt-ltb (offsetOf p) offsets (omega arith),
+      lt-ltb (codeOf p) codes (omega arith),
+      lt-ltb (typeOf p) types (omega arith),
+    )
+    (ap (λ (b : ℕ). At (record { bits = b })) (position-of-fields p))
+
+-- a position has the fields that it was made of
+module _ (chunk offset code type : ℕ) (o : offset < offsets) (k : code < codes) (t : type < types) where
+  pub chunk-of-position : chunkOf (positionOf chunk offset code type) ≡ chunk
+  chunk-of-position = omega arith
+
+  pub offset-of-position : offsetOf (positionOf chunk offset code type) ≡ offset
+  offset-of-position = omega arith
+
+  pub code-of-position : codeOf (positionOf chunk offset code type) ≡ code
+  code-of-position = omega arith
+
+  pub type-of-position : typeOf (positionOf chunk offset code type) ≡ type
+  type-of-position = omega arith
+
+-- a bound is at most 1,048,576 bytes: no shift loses bits
+pub bound-small : (code : ℕ) → code < 31 → (2 + code % 2) * 2 ^ (4 + code / 2) < 2 ^ 32
+bound-small code h =
+    let unit : 2 ^ (4 + code / 2) ≤ 2 ^ 19 = pow-mono {i = 4 + code / 2} {j = 19} (omega arith) in
+    let most : (2 + code % 2) * 2 ^ (4 + code / 2) ≤ 3 * 2 ^ 19 =
+    mul-le-mul {n₁ = 2 + code % 2} {m₁ = 2 ^ (4 + code / 2)} {n₂ = 3} {m₂ = 2 ^ 19} (omega arith) unit in
+    omega (arith, most)
