@@ -1,14 +1,15 @@
 -- Laws of runs of bytes.
 use Prim.Native.Nat.{ℕ, suc, _+_, _<_, _≤_}
-use mathlib.Core.Path.{_≡_, refl, sym, _∙_}
+use mathlib.Core.Path.{_≡_, refl, sym, _∙_, ap}
 use mathlib.Core.Bool.{Bool, true, false, cond, not}
 use mathlib.Core.List.{List, [], _∷_}
 use native.Mathlib.Numerals.{add-one}
 use native.Mathlib.Omega.{arith}
+use borrow.Author.Tests.{eq-eqb, ne-eqb, eqb-true}
 use lib.Dec.{eqb, eqb·suc-suc, eqb·zero-suc}
 use lib.ListN.{length, getD, take, drop, drop-of-length-le}
 use lib.Seq.{drop-cons}
-use Rattle.text.specs.Text.{span, every, isNot, split, toFirst}
+use Rattle.text.specs.Text.{span, every, isNot, same, split, toFirst}
 
 -- ## A run from an index on, as a loop goes through it
 module _ (P : ℕ → Bool) (s : List ℕ) (i : ℕ) where
@@ -129,3 +130,52 @@ split-more b (x ∷ s) h = go (eqb x b) refl (split-more b s) h
         take (cond (not t) (suc (span (isNot b) s)) 0) (x ∷ s) ∷ split b (drop (suc (cond (not t) (suc (span (isNot b) s)) 0)) (x ∷ s))
     go true e ih h = refl
     go false e ih h = rw (ih (omega arith))
+
+-- ## The same bytes
+pub same-length : (s t : List ℕ) → same s t ≡ true → length s ≡ length t
+unfolding same
+same-length [] [] e = refl
+same-length [] (y ∷ t) e = cc
+same-length (x ∷ s) [] e = cc
+same-length (x ∷ s) (y ∷ t) e = go (eqb x y) (same-length s t) e
+  where
+    go : (b : Bool) → (same s t ≡ true → length s ≡ length t) → cond b (same s t) false ≡ true → suc (length s) ≡ suc (length t)
+    go true ih e = ap suc (ih e)
+    go false ih e = cc
+
+-- texts of other lengths differ
+pub same-unlike : (s t : List ℕ) → (length s ≡ length t → ⊥) → same s t ≡ false
+same-unlike s t h = go (same s t) refl
+  where
+    go : (b : Bool) → same s t ≡ b → same s t ≡ false
+    go true e = absurd (h (same-length s t e))
+    go false e = e
+
+pub same-self : (s : List ℕ) → same s s ≡ true
+unfolding same
+same-self [] = refl
+same-self (x ∷ s) = rw (eq-eqb x x refl) (same-self s)
+
+pub same-eq : (s t : List ℕ) → same s t ≡ true → s ≡ t
+unfolding same
+same-eq [] [] e = refl
+same-eq [] (y ∷ t) e = cc
+same-eq (x ∷ s) [] e = cc
+same-eq (x ∷ s) (y ∷ t) e = go (eqb x y) refl (same-eq s t) e
+  where
+    go : (b : Bool) → eqb x y ≡ b → (same s t ≡ true → s ≡ t) → cond b (same s t) false ≡ true → (x ∷ s) ≡ (y ∷ t)
+    go true q ih e = λ i. eqb-true x y q i ∷ ih e i
+    go false q ih e = cc
+
+module _ (s t : List ℕ) (i : ℕ) where
+  pub same-on : i < length s → i < length t → getD s i 0 ≡ getD t i 0 → same (drop i s) (drop i t) ≡ same (drop (i + 1) s) (drop (i + 1) t)
+  unfolding same
+  same-on h k e = rw (drop-cons s i 0 h, drop-cons t i 0 k, eq-eqb (getD s i 0) (getD t i 0) e, add-one)
+
+  pub same-stop : i < length s → i < length t → (getD s i 0 ≡ getD t i 0 → ⊥) → same (drop i s) (drop i t) ≡ false
+  unfolding same
+  same-stop h k f = rw (drop-cons s i 0 h, drop-cons t i 0 k, ne-eqb (getD s i 0) (getD t i 0) f)
+
+  pub same-end : length s ≤ i → length t ≤ i → same (drop i s) (drop i t) ≡ true
+  unfolding same
+  same-end h k = rw (drop-of-length-le s h, drop-of-length-le t k)

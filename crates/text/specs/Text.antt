@@ -5,6 +5,7 @@
 --   isNot b x        x is another byte than b
 --   isPrintable x    x is 32 to 126: 01, "bytes 32 to 126"
 --   isLetter x       x is an ASCII letter
+--   same s t         whether s and t are the same bytes
 --   split b s        the parts of s between the bytes b; without one, s is its only part
 use Prim.Native.Nat.{ℕ, suc}
 use mathlib.Core.Bool.{Bool, true, false, cond, not, _&&_, _||_}
@@ -31,6 +32,12 @@ isPrintable = within 32 126
 
 abbrev pub isLetter : ℕ → Bool
 isLetter x = within 65 90 x || within 97 122 x
+
+unfoldable pub same : List ℕ → List ℕ → Bool
+same [] [] = true
+same [] (y ∷ t) = false
+same (x ∷ s) [] = false
+same (x ∷ s) (y ∷ t) = cond (eqb x y) (same s t) false
 
 abbrev pub toFirst : ℕ → List (List ℕ) → List (List ℕ)
 toFirst x [] = (x ∷ []) ∷ []

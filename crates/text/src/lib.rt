@@ -1,7 +1,7 @@
 // Runs of bytes. Definitions and laws in specs/; here the searches that have one byte as their aim.
 ghost use Prim.Native.Nat.{_+_};
 ghost use mathlib.Core.Path.{_≡_};
-ghost use Rattle.text.specs.Text.{span, isNot, every, isPrintable};
+ghost use Rattle.text.specs.Text.{span, isNot, every, isPrintable, same};
 ghost use lib.ListN.{drop};
 
 // The place of the first `b` from `from` on; where there is none, the place after the last byte.
@@ -29,6 +29,23 @@ pub fn all_printable(s: &[u8]) -> bool
             return false;
         }
         if 126 < b {
+            return false;
+        }
+        i += 1;
+    }
+    true
+}
+
+// Whether `s` and `t` are the same bytes.
+pub fn same_bytes(s: &[u8], t: &[u8]) -> bool
+    ensures { λ r. ⌜ r ≡ same (now (s .entry)) (now (t .entry)) ⌝ }
+{
+    if s.len() != t.len() {
+        return false;
+    }
+    let mut i = 0;
+    while i < s.len() {
+        if s[i] != t[i] {
             return false;
         }
         i += 1;
