@@ -4,8 +4,8 @@
 --   Answers cmp read root   lookup of any key, every index and the count agree with the entry list
 use Prim.Native.Nat.{ℕ, _<_, _≤_}
 use mathlib.Core.Path.{_≡_}
-use mathlib.Core.Option.{Option, none, some}
-use mathlib.Core.List.{List, List·Memᴰ}
+use mathlib.Core.Option.{none, some}
+use mathlib.Core.List.{List·Memᴰ}
 use lib.ListN.{length, getElem?}
 use Rattle.refusal.specs.Refusal.{Outcome, ok, refuse, badIndex}
 use Rattle.order.specs.declared.Order.{Order}
@@ -20,6 +20,7 @@ module _ {K W : Type 0} (cmp : K → K → Order) (read : ℕ → Outcome (Page 
   pub record Answers : Type 0 where
     pub present : (k : K) (w : W) → List·Memᴰ (k, w) (mapEntries read root) → mapLookup cmp read k root ≡ ok (some w)
     pub absent : (k : K) → ((w : W) → List·Memᴰ (k, w) (mapEntries read root) → ⊥) → mapLookup cmp read k root ≡ ok none
-    pub indexed : (i : ℕ) → i < length (mapEntries read root) → (e : K × W) × (getElem? (mapEntries read root) i ≡ some e) × (mapIndex read i root ≡ ok e)
+    pub indexed : (i : ℕ) → i < length (mapEntries read root)
+        → (e : K × W) × (getElem? (mapEntries read root) i ≡ some e) × (mapIndex read i root ≡ ok e)
     pub beyond : (i : ℕ) → length (mapEntries read root) ≤ i → mapIndex read i root ≡ refuse badIndex
     pub number : mapCount read root ≡ ok (length (mapEntries read root))

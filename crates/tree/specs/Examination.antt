@@ -73,16 +73,20 @@ module _ {K W : Type 0} (cmp : K → K → Order) where
       (aboveBound cmp previous (e .0) && (fromBound cmp lo (e .0) && belowBound cmp hi (e .0))) && keysLie lo hi (some (e .0)) es
 
 -- "a child before its recorded count"
-abbrev pub examineChildren : {K : Type 0} → (Option K → Option K → ℕ → Outcome Report) → Option K → Option K → Children K → Outcome Report
+abbrev pub examineChildren : {K : Type 0} → (Option K → Option K → ℕ → Outcome Report) → Option K → Option K → Children K
+    → Outcome Report
 examineChildren child lo hi (last p c) = bind (child lo hi p) (counted c)
 examineChildren child lo hi (more p c s cs) =
     bind (bind (child lo (some s) p) (counted c)) (λ a. bind (examineChildren child (some s) hi cs) (λ b. ok (both a b)))
 
 module _ {K W : Type 0} (cmp : K → K → Order) where
-  abbrev pub examinePage : (Option K → Option K → ℕ → Outcome Report) → Bool → Option K → Option K → Outcome (Page K W) → Outcome Report
+  abbrev pub examinePage : (Option K → Option K → ℕ → Outcome Report) → Bool → Option K → Option K → Outcome (Page K W)
+      → Outcome Report
   examinePage child root lo hi (refuse r) = refuse r
-  examinePage child root lo hi (ok (leaf es)) = branch (filled root es && keysLie cmp lo hi none es) (ok (oneLeaf (length es))) (refuse unsound)
-  examinePage child root lo hi (ok (inner cs)) = branch (separatorsLie cmp lo hi (separators cs)) (bind (examineChildren child lo hi cs) (λ a. ok (over a))) (refuse unsound)
+  examinePage child root lo hi (ok (leaf es)) =
+      branch (filled root es && keysLie cmp lo hi none es) (ok (oneLeaf (length es))) (refuse unsound)
+  examinePage child root lo hi (ok (inner cs)) =
+      branch (separatorsLie cmp lo hi (separators cs)) (bind (examineChildren child lo hi cs) (λ a. ok (over a))) (refuse unsound)
 
 module _ {K W : Type 0} (cmp : K → K → Order) (read : ℕ → Outcome (Page K W)) where
   unfoldable pub examine : ℕ → Bool → Option K → Option K → ℕ → Outcome Report

@@ -31,7 +31,8 @@ pageAt read (suc levels) p = read p
 -- depth and location included, each of its children, whether or not the child meets them."
 pub data Reached {K W : Type 0} (read : ℕ → Outcome (Page K W)) (root : ℕ) : ℕ → ℕ → Type 0 where
   top : ¬ (root ≡ 0) → Reached read root 16 root
-  under : {levels p : ℕ} (q : ℕ) (cs : Children K) → Reached read root (suc levels) p → read p ≡ ok (inner cs) → IsChild q cs → Reached read root levels q
+  under : {levels p : ℕ} (q : ℕ) (cs : Children K) → Reached read root (suc levels) p → read p ≡ ok (inner cs) → IsChild q cs
+      → Reached read root levels q
 
 module _ {K W : Type 0} (cmp : K → K → Order) where
   abbrev pub Rising : List (K × W) → Type 0
@@ -42,7 +43,9 @@ module _ {K W : Type 0} (cmp : K → K → Order) where
   abbrev pub Separated : (ℕ → List (K × W)) → List (K × W) → Children K → Type 0
   Separated list left (last p c) = Unit {0}
   Separated list left (more p c s cs) =
-      All (λ e. Below cmp (e .0) s) (left ++ list p) × All (λ e. UpTo cmp s (e .0)) (joined list cs) × Separated list (left ++ list p) cs
+      All (λ e. Below cmp (e .0) s) (left ++ list p) ×
+      All (λ e. UpTo cmp s (e .0)) (joined list cs) ×
+      Separated list (left ++ list p) cs
 
   pub record Sound (read : ℕ → Outcome (Page K W)) (root : ℕ) : Type 0 where
     -- "all reached pages meet the page rules"
@@ -50,8 +53,11 @@ module _ {K W : Type 0} (cmp : K → K → Order) where
     -- "leaf keys rise strictly from left to right"
     pub rising : Rising (mapEntries read root)
     -- "each separator is above all keys to its left in its page's subtree and not above any to its right"
-    pub separated : (levels p : ℕ) (cs : Children K) → Reached read root (suc levels) p → read p ≡ ok (inner cs) → Separated (entries read levels) [] cs
+    pub separated : (levels p : ℕ) (cs : Children K) → Reached read root (suc levels) p → read p ≡ ok (inner cs)
+        → Separated (entries read levels) [] cs
     -- "each recorded count is the entries under that child"
-    pub counts : (levels p : ℕ) (cs : Children K) → Reached read root (suc levels) p → read p ≡ ok (inner cs) → AllChildren (λ q c. c ≡ length (entries read levels q)) cs
+    pub counts : (levels p : ℕ) (cs : Children K) → Reached read root (suc levels) p → read p ≡ ok (inner cs)
+        → AllChildren (λ q c. c ≡ length (entries read levels q)) cs
     -- "only the root may be an empty leaf"
-    pub filled : (levels p q : ℕ) (cs : Children K) → Reached read root (suc levels) p → read p ≡ ok (inner cs) → IsChild q cs → read q ≡ ok (leaf []) → ⊥
+    pub filled : (levels p q : ℕ) (cs : Children K) → Reached read root (suc levels) p → read p ≡ ok (inner cs) → IsChild q cs
+        → read q ≡ ok (leaf []) → ⊥
