@@ -29,7 +29,9 @@ cast-w-2 : tie.Need-cast-w-2 Inv-loop μ-loop
 cast-w-2 c = omega (arith, c .shared-slice-known3 .given (c .before .before .before .loop .i + 1))
 
 add-w-2 : tie.Need-add-w-2 Inv-loop μ-loop
-add-w-2 c = omega (arith, c .shared-slice-known3 .given (c .before .before .before .loop .i + 1), c .before .shared-slice-known2 .given (c .before .before .before .loop .i))
+add-w-2 c =
+    let l = c .before .before .before .loop in
+    omega (arith, c .shared-slice-known3 .given (l .i + 1), c .before .shared-slice-known2 .given (l .i))
 
 loop-again : tie.Need-loop-again Inv-loop μ-loop
 loop-again c =

@@ -17,16 +17,27 @@ abbrev μ-loop : tie.MeasureT-loop
 μ-loop s i₀ i = length s - i
 
 returns : tie.Need-returns Inv-loop μ-loop
-returns c = sym (every-stop isPrintable (now (c .before .before .before .before .args .s)) (c .before .before .before .loop .i) (omega arith) (rw (lt-leb _ _ (c .if1 .taken)))) ∙ c .before .before .before .loop .inv
+returns c =
+    let l = c .before .before .before .loop in
+    let a = c .before .before .before .before .args in
+    sym (every-stop isPrintable (now (a .s)) (l .i) (omega arith) (rw (lt-leb _ _ (c .if1 .taken)))) ∙ l .inv
 
 returns-2 : tie.Need-returns-2 Inv-loop μ-loop
-returns-2 c = sym (every-stop isPrintable (now (c .before .before .before .before .before .args .s)) (c .before .before .before .before .loop .i) (omega arith) (rw (le-leb _ _ (c .before .if1 .left), lt-leb _ _ (c .if2 .taken)))) ∙ c .before .before .before .before .loop .inv
+returns-2 c =
+    let l = c .before .before .before .before .loop in
+    let a = c .before .before .before .before .before .args in
+    sym (every-stop isPrintable (now (a .s)) (l .i) (omega arith) (rw (le-leb _ _ (c .before .if1 .left), lt-leb _ _ (c .if2 .taken)))) ∙ l .inv
 
 loop-again : tie.Need-loop-again Inv-loop μ-loop
-loop-again c = sym (every-on isPrintable (now (c .before .before .before .before .before .args .s)) (c .before .before .before .before .loop .i) (omega arith) (rw (le-leb _ _ (c .before .if1 .left), le-leb _ _ (c .if2 .left)))) ∙ c .before .before .before .before .loop .inv
+loop-again c =
+    let l = c .before .before .before .before .loop in
+    let a = c .before .before .before .before .before .args in
+    sym (every-on isPrintable (now (a .s)) (l .i) (omega arith) (rw (le-leb _ _ (c .before .if1 .left), le-leb _ _ (c .if2 .left)))) ∙ l .inv
 
 returns-3 : tie.Need-returns-3 Inv-loop μ-loop
-returns-3 c = sym (every-end isPrintable (now (c .before .before .args .s)) (c .before .loop .i) (omega arith)) ∙ c .before .loop .inv
+returns-3 c =
+    let l = c .before .loop in
+    sym (every-end isPrintable (now (c .before .before .args .s)) (l .i) (omega arith)) ∙ l .inv
 
 pub all-printable-spec : {M : Type 1} → statement M
 all-printable-spec =

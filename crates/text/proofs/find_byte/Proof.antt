@@ -18,13 +18,22 @@ abbrev μ-loop : tie.MeasureT-loop
 μ-loop s from b i₀ i = length s - i
 
 returns : tie.Need-returns Inv-loop μ-loop
-returns c = omega (arith, c .before .before .before .loop .inv, span-stop (isNot (c .before .before .before .before .args .b)) (now (c .before .before .before .before .args .s)) (c .before .before .before .loop .i) (omega arith) (ap not (eq-eqb _ _ (c .if1 .taken))))
+returns c =
+    let l = c .before .before .before .loop in
+    let a = c .before .before .before .before .args in
+    omega (arith, l .inv, span-stop (isNot (a .b)) (now (a .s)) (l .i) (omega arith) (ap not (eq-eqb _ _ (c .if1 .taken))))
 
 loop-again : tie.Need-loop-again Inv-loop μ-loop
-loop-again c = omega (arith, c .before .before .before .loop .inv, span-on (isNot (c .before .before .before .before .args .b)) (now (c .before .before .before .before .args .s)) (c .before .before .before .loop .i) (omega arith) (ap not (ne-eqb _ _ (c .if1 .left))))
+loop-again c =
+    let l = c .before .before .before .loop in
+    let a = c .before .before .before .before .args in
+    omega (arith, l .inv, span-on (isNot (a .b)) (now (a .s)) (l .i) (omega arith) (ap not (ne-eqb _ _ (c .if1 .left))))
 
 returns-2 : tie.Need-returns-2 Inv-loop μ-loop
-returns-2 c = omega (arith, c .before .loop .inv, span-end (isNot (c .before .before .args .b)) (now (c .before .before .args .s)) (c .before .loop .i) (omega arith))
+returns-2 c =
+    let l = c .before .loop in
+    let a = c .before .before .args in
+    omega (arith, l .inv, span-end (isNot (a .b)) (now (a .s)) (l .i) (omega arith))
 
 pub find-byte-spec : {M : Type 1} → statement M
 find-byte-spec =

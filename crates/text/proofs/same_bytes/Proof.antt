@@ -19,13 +19,22 @@ returns : tie.Need-returns Inv-loop μ-loop
 returns c = sym (same-unlike (now (c .before .args .s)) (now (c .before .args .t)) (c .if1 .taken))
 
 returns-2 : tie.Need-returns-2 Inv-loop μ-loop
-returns-2 c = sym (same-stop (now (c .before .before .before .before .before .before .args .s)) (now (c .before .before .before .before .before .before .args .t)) (c .before .before .before .before .loop .i) (omega arith) (omega arith) (c .if2 .taken)) ∙ c .before .before .before .before .loop .inv .1
+returns-2 c =
+    let l = c .before .before .before .before .loop in
+    let a = c .before .before .before .before .before .before .args in
+    sym (same-stop (now (a .s)) (now (a .t)) (l .i) (omega arith) (omega arith) (c .if2 .taken)) ∙ l .inv .1
 
 loop-again : tie.Need-loop-again Inv-loop μ-loop
-loop-again c = (c .before .before .before .before .loop .inv .0, sym (same-on (now (c .before .before .before .before .before .before .args .s)) (now (c .before .before .before .before .before .before .args .t)) (c .before .before .before .before .loop .i) (omega arith) (omega arith) (search needs)) ∙ c .before .before .before .before .loop .inv .1)
+loop-again c =
+    let l = c .before .before .before .before .loop in
+    let a = c .before .before .before .before .before .before .args in
+    (l .inv .0, sym (same-on (now (a .s)) (now (a .t)) (l .i) (omega arith) (omega arith) (search needs)) ∙ l .inv .1)
 
 returns-3 : tie.Need-returns-3 Inv-loop μ-loop
-returns-3 c = sym (same-end (now (c .before .before .before .args .s)) (now (c .before .before .before .args .t)) (c .before .loop .i) (omega arith) (omega arith)) ∙ c .before .loop .inv .1
+returns-3 c =
+    let l = c .before .loop in
+    let a = c .before .before .before .args in
+    sym (same-end (now (a .s)) (now (a .t)) (l .i) (omega arith) (omega arith)) ∙ l .inv .1
 
 pub same-bytes-spec : {M : Type 1} → statement M
 same-bytes-spec =

@@ -14,11 +14,15 @@ returns-2 c = rw (lt-ltb _ chunks (c .before .if1 .left), lt-ltb (c .before .bef
 
 returns-3 : tie.Need-returns-3
 unfolding madeOf
-returns-3 c = rw (lt-ltb _ chunks (c .before .before .if1 .left), lt-ltb (c .before .before .before .args .offset) offsets (search needs), lt-ltb _ codes (c .before .if2 .left), le-ltb _ types (c .if3 .taken))
+returns-3 c =
+    let a = c .before .before .before .args in
+    rw (lt-ltb _ chunks (c .before .before .if1 .left), lt-ltb (a .offset) offsets (search needs), lt-ltb _ codes (c .before .if2 .left), le-ltb _ types (c .if3 .taken))
 
 returns-4 : tie.Need-returns-4
 unfolding madeOf
-returns-4 c = rw (lt-ltb _ chunks (c .before .before .if1 .left), lt-ltb (c .before .before .before .args .offset) offsets (search needs), lt-ltb _ codes (c .before .if2 .left), lt-ltb _ types (c .if3 .left))
+returns-4 c =
+    let a = c .before .before .before .args in
+    rw (lt-ltb _ chunks (c .before .before .if1 .left), lt-ltb (a .offset) offsets (search needs), lt-ltb _ codes (c .before .if2 .left), lt-ltb _ types (c .if3 .left))
 
 pub make-spec : {M : Type 1} → statement M
 make-spec =
