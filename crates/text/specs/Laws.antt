@@ -1,15 +1,15 @@
 -- Laws of runs of bytes.
 use Prim.Native.Nat.{ℕ, suc, _+_, _<_, _≤_}
 use mathlib.Core.Path.{_≡_, refl, sym, _∙_, ap}
-use mathlib.Core.Bool.{Bool, true, false, cond, not}
+use mathlib.Core.Bool.{Bool, true, false, cond, not, _&&_}
 use mathlib.Core.List.{List, [], _∷_}
 use native.Mathlib.Numerals.{add-one}
 use native.Mathlib.Omega.{arith}
-use borrow.Author.Tests.{eq-eqb, ne-eqb, eqb-true}
-use lib.Dec.{eqb, eqb·suc-suc, eqb·zero-suc}
+use borrow.Author.Tests.{eq-eqb, ne-eqb, eqb-true, leb-true, le-leb}
+use lib.Dec.{eqb, eqb·suc-suc, eqb·zero-suc, leb}
 use lib.ListN.{length, getD, take, drop, drop-of-length-le}
 use lib.Seq.{drop-cons}
-use Rattle.text.specs.Text.{span, every, isNot, same, split, toFirst}
+use Rattle.text.specs.Text.{span, every, isNot, same, split, toFirst, within}
 
 -- ## A run from an index on, as a loop goes through it
 module _ (P : ℕ → Bool) (s : List ℕ) (i : ℕ) where
@@ -47,6 +47,14 @@ module _ (P : ℕ → Bool) where
       go : (t : Bool) → span P s ≤ length s → cond t (suc (span P s)) 0 ≤ suc (length s)
       go true h = omega arith
       go false h = omega arith
+
+  pub every-first : (x : ℕ) (s : List ℕ) → every P (x ∷ s) ≡ true → (P x ≡ true) × (every P s ≡ true)
+  unfolding every
+  every-first x s h = go (P x) h
+    where
+      go : (t : Bool) → cond t (every P s) false ≡ true → (t ≡ true) × (every P s ≡ true)
+      go true h = (refl, h)
+      go false h = absurd (let z : _≡_ {A = ℕ} 0 1 = cc in omega arith)
 
   -- all bytes have the property exactly where the run is the whole text
   pub every-span : (s : List ℕ) → every P s ≡ eqb (span P s) (length s)
@@ -103,6 +111,16 @@ module _ (P Q : ℕ → Bool) (narrower : (x : ℕ) → P x ≡ true → Q x ≡
       go true e false f ih = absurd (let g = narrower x e in let z : _≡_ {A = ℕ} 0 1 = cc in omega arith)
       go false e true f ih = rw e (sym (eqb·zero-suc (span Q s)))
       go false e false f ih = refl
+
+  pub every-wider : (s : List ℕ) → every P s ≡ true → every Q s ≡ true
+  unfolding every
+  every-wider [] h = refl
+  every-wider (x ∷ s) h = go (P x) refl (every-wider s) h
+    where
+      go : (t : Bool) → P x ≡ t → (every P s ≡ true → every Q s ≡ true) → cond t (every P s) false ≡ true →
+          cond (Q x) (every Q s) false ≡ true
+      go true e ih h = rw (narrower x e) (ih h)
+      go false e ih h = absurd (let z : _≡_ {A = ℕ} 0 1 = cc in omega arith)
 
 -- ## Parts between separators
 -- the last part
@@ -179,3 +197,15 @@ module _ (s t : List ℕ) (i : ℕ) where
   pub same-end : length s ≤ i → length t ≤ i → same (drop i s) (drop i t) ≡ true
   unfolding same
   same-end h k = rw (drop-of-length-le s h, drop-of-length-le t k)
+
+-- ## A class of bytes that is a range
+pub within-true : (low high x : ℕ) → within low high x ≡ true → (low ≤ x) × (x ≤ high)
+within-true low high x e = go (leb low x) refl (leb x high) refl e
+  where
+    go : (p : Bool) → leb low x ≡ p → (q : Bool) → leb x high ≡ q → p && q ≡ true → (low ≤ x) × (x ≤ high)
+    go true e true f h = (leb-true low x e, leb-true x high f)
+    go true e false f h = absurd (let z : _≡_ {A = ℕ} 0 1 = cc in omega arith)
+    go false e q f h = absurd (let z : _≡_ {A = ℕ} 0 1 = cc in omega arith)
+
+pub true-within : (low high x : ℕ) → low ≤ x → x ≤ high → within low high x ≡ true
+true-within low high x l h = rw (le-leb low x l, le-leb x high h)

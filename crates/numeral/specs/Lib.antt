@@ -1,0 +1,9 @@
+pub mod BigEndian
+pub mod BigEndianLaws
+pub mod Hex
+pub mod HexLaws
+pub mod HexRunLaws
+pub mod HexTextLaws
+pub mod HexWriteLaws
+pub mod Var
+pub mod VarLaws
