@@ -13,7 +13,7 @@ use Rattle.numeral.specs.BigEndian.{bigEndian, bigEndianAt}
 -- a number and one that follows it, as one number
 pub bigEndian-add : (a b : ℕ) (s : List ℕ) (i : ℕ) → bigEndian (a + b) s i ≡ bigEndian a s i * 256 ^ b + bigEndian b s (i + a)
 unfolding bigEndian
-bigEndian-add a zero s i = rw add-zero (omega arith)
+bigEndian-add a zero s i = rw (add-zero a) (omega arith)
 bigEndian-add a (suc b) s i =
     let ih = bigEndian-add a b s i in
     rw (add-suc a b, add-assoc i a b, pow-suc 256 b, ← mul-assoc, ih) (omega arith)

@@ -114,11 +114,11 @@ abbrev pub whole : ℕ → Numeral → Number
 whole end (Read v next) = cond (eqb next end) (number.Value v) number.Bad
 whole end Bad = number.Bad
 
--- n bytes at place i; `every-narrower` gives the second premise of a part that ends at a byte that is no digit
-pub hexOf-part : (s : List ℕ) (i n : ℕ) → n ≤ length (drop i s) →
-    every isDigit (take n (drop i s)) ≡ eqb (span isDigit (drop i s)) n → hexOf (take n (drop i s)) ≡ whole (i + n) (hexRunAt s i)
+-- n bytes at place i; `every-narrower` gives the premise of a part that ends at a byte that is no digit
+pub hexOf-part : (s : List ℕ) (i n : ℕ) → every isDigit (take n (drop i s)) ≡ eqb (span isDigit (drop i s)) n →
+    hexOf (take n (drop i s)) ≡ whole (i + n) (hexRunAt s i)
 unfolding hexOf hexRunAt
-hexOf-part s i n h q = go (eqb m n) refl (shaped (take m part)) refl
+hexOf-part s i n q = go (eqb m n) refl (shaped (take m part)) refl
   where
     part : List ℕ
     part = drop i s
@@ -142,4 +142,4 @@ hexOf-part s i n h q = go (eqb m n) refl (shaped (take m part)) refl
 pub hexOf-whole : (s : List ℕ) → hexOf s ≡ whole (length s) (hexRunAt s 0)
 hexOf-whole s =
     rw (take-length s, zero-add (length s)) at
-    (hexOf-part s 0 (length s) (omega arith) (rw (take-length s) (every-span isDigit s)))
+    (hexOf-part s 0 (length s) (rw (take-length s) (every-span isDigit s)))

@@ -13,7 +13,8 @@ use Rattle.text.specs.Text.{every, isPrintable}
 use Rattle.text.specs.Laws.{true-within, every-first, every-wider}
 use Rattle.numeral.specs.declared.hex.Number.the-variants as number
 use Rattle.numeral.specs.Hex.{digitOf, isDigit, digitByte, hexFrom, hexValue, hexBefore, hexText, shaped, hexOf}
-use Rattle.numeral.specs.HexLaws.{Kind, decimal, letter, other, kind, digitOf-decimal, digitOf-digitByte, digitByte-digitOf, digitOf-zero, Shaped, shaped-true, shaped-known}
+use Rattle.numeral.specs.HexLaws.{Kind, decimal, letter, other, kind, Shaped, shaped-true, shaped-known}
+use Rattle.numeral.specs.HexLaws.{digitOf-decimal, digitOf-digitByte, digitByte-digitOf, digitOf-zero}
 
 -- ## The digits of a number, the low one last
 module _ (s : List ℕ) where
@@ -73,7 +74,8 @@ hexFrom-hexBefore (suc most) n s h l = go (ltb n 16) refl (hexFrom-hexBefore mos
         ih (omega (arith, power-more (suc most) n l (ltb-false n 16 e))) (omega (arith, pow-suc 16 most)) ∙
         ap (λ (x : ℕ). hexFrom x s) (omega (arith, digitOf-digitByte (n % 16) (omega arith)))
 
-length-hexBefore : (most n : ℕ) (s : List ℕ) → 0 < most → (length s < length (hexBefore most n s)) × (length (hexBefore most n s) ≤ most + length s)
+length-hexBefore : (most n : ℕ) (s : List ℕ) → 0 < most →
+    (length s < length (hexBefore most n s)) × (length (hexBefore most n s) ≤ most + length s)
 unfolding hexBefore
 length-hexBefore zero n s h = absurd (omega arith)
 length-hexBefore (suc zero) n s h = go (ltb n 16)
@@ -139,7 +141,8 @@ hexOf-hexText n h = rw (hexText-digits n, hexText-shaped n h) (ap number.Value (
 
 -- ## A number has one text
 -- the digits of what follows other digits, before the digits of those
-hexBefore-hexFrom : (k v : ℕ) (s t : List ℕ) → 0 < v → every isDigit s ≡ true → hexBefore (k + length s) (hexFrom v s) t ≡ hexBefore k v (s ++ t)
+hexBefore-hexFrom : (k v : ℕ) (s t : List ℕ) → 0 < v → every isDigit s ≡ true →
+    hexBefore (k + length s) (hexFrom v s) t ≡ hexBefore k v (s ++ t)
 unfolding hexFrom
 hexBefore-hexFrom k v [] t h d = rw add-zero
 hexBefore-hexFrom k v (b ∷ s) t h d =
@@ -176,8 +179,8 @@ pub hexText-hexOf : (s : List ℕ) (n : ℕ) → hexOf s ≡ number.Value n → 
 unfolding hexOf
 hexText-hexOf s n e = go (every isDigit s) refl (shaped s) refl e
   where
-    go : (t : Bool) → every isDigit s ≡ t → (u : Bool) → shaped s ≡ u → cond (t && u) (number.Value (hexValue s)) number.Bad ≡ number.Value n →
-        s ≡ hexText n
+    go : (t : Bool) → every isDigit s ≡ t → (u : Bool) → shaped s ≡ u →
+        cond (t && u) (number.Value (hexValue s)) number.Bad ≡ number.Value n → s ≡ hexText n
     go true d true f e = hexText-hexValue s d (shaped-known s f) ∙ ap hexText (cc)
     go true d false f e = absurd (let z : _≡_ {A = ℕ} 0 1 = cc in omega arith)
     go false d u f e = absurd (let z : _≡_ {A = ℕ} 0 1 = cc in omega arith)

@@ -117,7 +117,9 @@ limited-inside i j limit (Read v next) h = go (ltb v limit)
 varFrom-inside : (i : ℕ) (s : List ℕ) → Inside i (i + length s) (varFrom i s)
 unfolding varFrom
 varFrom-inside i [] = tt
-varFrom-inside i (b ∷ s) = go (ltb b 128) (continued-inside _ _ (b - 128) (varFrom (i + 1) s) (wider (varFrom (i + 1) s) (varFrom-inside (i + 1) s)))
+varFrom-inside i (b ∷ s) =
+    let r = varFrom (i + 1) s in
+    go (ltb b 128) (continued-inside _ _ (b - 128) r (wider r (varFrom-inside (i + 1) s)))
   where
     wider : (r : Numeral) → Inside (i + 1) (i + 1 + length s) r → Inside i (i + suc (length s)) r
     wider (Read v next) h = (omega arith, omega arith)
