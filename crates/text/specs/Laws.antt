@@ -1,15 +1,15 @@
 -- Laws of runs of bytes.
-use Prim.Native.Nat.{ℕ, suc, _+_, _<_, _≤_}
+use Prim.Native.Nat.{ℕ, zero, suc, _+_, _<_, _≤_}
 use mathlib.Core.Path.{_≡_, refl, sym, _∙_, ap}
 use mathlib.Core.Bool.{Bool, true, false, cond, not, _&&_}
 use mathlib.Core.List.{List, [], _∷_}
 use native.Mathlib.Numerals.{add-one}
 use native.Mathlib.Omega.{arith}
-use borrow.Author.Tests.{eq-eqb, ne-eqb, eqb-true, leb-true, le-leb}
-use lib.Dec.{eqb, eqb·suc-suc, eqb·zero-suc, leb}
+use borrow.Author.Tests.{ltb-true, ltb-false, leb-true, le-leb, eq-eqb, ne-eqb, eqb-true}
+use lib.Dec.{eqb, ltb, leb, eqb·suc-suc, eqb·zero-suc}
 use lib.ListN.{length, getD, take, drop, drop-of-length-le}
 use lib.Seq.{drop-cons}
-use Rattle.text.specs.Text.{span, every, isNot, same, split, toFirst, within}
+use Rattle.text.specs.Text.{span, every, within, isNot, same, split, toFirst}
 
 -- ## A run from an index on, as a loop goes through it
 module _ (P : ℕ → Bool) (s : List ℕ) (i : ℕ) where
@@ -149,6 +149,18 @@ split-more b (x ∷ s) h = go (eqb x b) refl (split-more b s) h
     go true e ih h = refl
     go false e ih h = rw (ih (omega arith))
 
+-- ## A class of bytes that is a range
+pub within-true : (low high x : ℕ) → within low high x ≡ true → (low ≤ x) × (x ≤ high)
+within-true low high x e = go (leb low x) refl (leb x high) refl e
+  where
+    go : (p : Bool) → leb low x ≡ p → (q : Bool) → leb x high ≡ q → p && q ≡ true → (low ≤ x) × (x ≤ high)
+    go true e true f h = (leb-true low x e, leb-true x high f)
+    go true e false f h = absurd (let z : _≡_ {A = ℕ} 0 1 = cc in omega arith)
+    go false e q f h = absurd (let z : _≡_ {A = ℕ} 0 1 = cc in omega arith)
+
+pub true-within : (low high x : ℕ) → low ≤ x → x ≤ high → within low high x ≡ true
+true-within low high x l h = rw (le-leb low x l, le-leb x high h)
+
 -- ## The same bytes
 pub same-length : (s t : List ℕ) → same s t ≡ true → length s ≡ length t
 unfolding same
@@ -198,14 +210,69 @@ module _ (s t : List ℕ) (i : ℕ) where
   unfolding same
   same-end h k = rw (drop-of-length-le s h, drop-of-length-le t k)
 
--- ## A class of bytes that is a range
-pub within-true : (low high x : ℕ) → within low high x ≡ true → (low ≤ x) × (x ≤ high)
-within-true low high x e = go (leb low x) refl (leb x high) refl e
-  where
-    go : (p : Bool) → leb low x ≡ p → (q : Bool) → leb x high ≡ q → p && q ≡ true → (low ≤ x) × (x ≤ high)
-    go true e true f h = (leb-true low x e, leb-true x high f)
-    go true e false f h = absurd (let z : _≡_ {A = ℕ} 0 1 = cc in omega arith)
-    go false e q f h = absurd (let z : _≡_ {A = ℕ} 0 1 = cc in omega arith)
+-- ## Inside a run
+module _ (P : ℕ → Bool) where
+  pub span-byte : (s : List ℕ) (k : ℕ) → k < span P s → P (getD s k 0) ≡ true
+  unfolding span
+  span-byte [] k h = absurd (omega arith)
+  span-byte (x ∷ s) k h = go (P x) refl (span-byte s) k h
+    where
+      go : (t : Bool) → P x ≡ t → ((k : ℕ) → k < span P s → P (getD s k 0) ≡ true) → (k : ℕ) → k < cond t (suc (span P s)) 0 →
+          P (getD (x ∷ s) k 0) ≡ true
+      go true e ih zero h = e
+      go true e ih (suc k) h = ih k (omega arith)
+      go false e ih k h = absurd (omega arith)
 
-pub true-within : (low high x : ℕ) → low ≤ x → x ≤ high → within low high x ≡ true
-true-within low high x l h = rw (le-leb low x l, le-leb x high h)
+  -- after its first k bytes a run goes on as the run there
+  pub span-drop : (k : ℕ) (s : List ℕ) → k ≤ span P s → span P s ≡ k + span P (drop k s)
+  unfolding span
+  span-drop zero s h = omega arith
+  span-drop (suc k) [] h = absurd (omega arith)
+  span-drop (suc k) (x ∷ s) h = go (P x) (span-drop k s) h
+    where
+      go : (t : Bool) → (k ≤ span P s → span P s ≡ k + span P (drop k s)) → suc k ≤ cond t (suc (span P s)) 0 →
+          cond t (suc (span P s)) 0 ≡ suc k + span P (drop k s)
+      go true ih h = omega (arith, ih (omega arith))
+      go false ih h = absurd (omega arith)
+
+  pub drop-run : (k : ℕ) (s : List ℕ) → k ≤ span P s → drop k (take (span P s) s) ≡ take (span P (drop k s)) (drop k s)
+  unfolding span
+  drop-run zero s h = refl
+  drop-run (suc k) [] h = absurd (omega arith)
+  drop-run (suc k) (x ∷ s) h = go (P x) (drop-run k s) h
+    where
+      go : (t : Bool) → (k ≤ span P s → drop k (take (span P s) s) ≡ take (span P (drop k s)) (drop k s)) →
+          suc k ≤ cond t (suc (span P s)) 0 → drop (suc k) (take (cond t (suc (span P s)) 0) (x ∷ s)) ≡ take (span P (drop k s)) (drop k s)
+      go true ih h = ih (omega arith)
+      go false ih h = absurd (omega arith)
+
+-- ## Where the run of a narrower class ends
+module _ (P Q : ℕ → Bool) (narrower : (x : ℕ) → P x ≡ true → Q x ≡ true) where
+  -- the wider run, taken alone, has the same narrower run in front
+  pub span-run : (s : List ℕ) → span P (take (span Q s) s) ≡ span P s
+  unfolding span
+  span-run [] = refl
+  span-run (x ∷ s) = go (P x) refl (Q x) refl (span-run s)
+    where
+      go : (t : Bool) → P x ≡ t → (u : Bool) → Q x ≡ u → span P (take (span Q s) s) ≡ span P s →
+          span P (take (cond u (suc (span Q s)) 0) (x ∷ s)) ≡ cond t (suc (span P s)) 0
+      go true e true f ih = rw e (ap suc ih)
+      go true e false f ih = absurd (let g = narrower x e in let z : _≡_ {A = ℕ} 0 1 = cc in omega arith)
+      go false e true f ih = rw e
+      go false e false f ih = refl
+
+  -- a byte outside the wider class, or the end, follows it: they are the same run
+  pub span-ends : (s : List ℕ) → (span P s < length s → Q (getD s (span P s) 0) ≡ false) → span P s ≡ span Q s
+  span-ends s h = go (ltb (span P s) (span Q s)) refl
+    where
+      go : (t : Bool) → ltb (span P s) (span Q s) ≡ t → span P s ≡ span Q s
+      go true e =
+          let less = ltb-true (span P s) (span Q s) e in
+          let out = h (omega (arith, span-le Q s)) in
+          let in-run = span-byte Q s (span P s) less in
+          absurd (let z : _≡_ {A = ℕ} 0 1 = cc in omega arith)
+      go false e = omega (arith, ltb-false (span P s) (span Q s) e, span-narrower P Q narrower s)
+
+  -- any other byte follows it: the wider run goes on
+  pub span-goes-on : (s : List ℕ) → span P s < length s → Q (getD s (span P s) 0) ≡ true → span P s ≡ span Q s → ⊥
+  span-goes-on s h q e = let a = span-next Q s (omega arith) in let b = rw e at q in let z : _≡_ {A = ℕ} 0 1 = cc in omega arith

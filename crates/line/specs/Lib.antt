@@ -1,0 +1,13 @@
+pub mod Line
+pub mod Field
+pub mod Fields
+pub mod Reading
+pub mod LineLaws
+pub mod FieldLaws
+pub mod FieldAtLaws
+pub mod FieldsLaws
+pub mod SlotLaws
+pub mod ReadingLaws
+pub mod FillLaws
+pub mod FinishLaws
+pub mod SumLaws

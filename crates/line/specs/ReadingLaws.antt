@@ -1,0 +1,82 @@
+-- Laws of how a line is read, one for each branch of the code.
+use Prim.Native.Nat.{ℕ, suc, _+_, _-_, _≤_, _<_}
+use mathlib.Core.Path.{_≡_}
+use mathlib.Core.Bool.{true, false}
+use mathlib.Core.List.{List, _∷_}
+use native.Mathlib.Omega.{arith}
+use lib.ListN.{length, take, drop}
+use Rattle.text.specs.Text.{span, isNot, same, split}
+use Rattle.line.specs.declared.field.Part.the-variants as part
+use Rattle.line.specs.Field.{comma, partFrom, partAt}
+use Rattle.line.specs.declared.read.Fields.{Fields}
+use Rattle.line.specs.Fields.{noFields}
+use Rattle.line.specs.Reading.{numberOf, slotOf, namedIn, put, seen, finish, partsAfter}
+use Rattle.line.specs.FieldLaws.{Placed, length-part, parts-more, parts-none, parts-first, part-until, part-bad}
+
+-- ## The place of a name in a list that is written with commas
+module _ (names name : List ℕ) (i end : ℕ) (e : end ≡ i + span (isNot comma) (drop i names)) where
+  parts-end : split comma (drop i names) ≡ take (end - i) (drop i names) ∷ partsAfter names end
+  parts-end =
+      let w : end ≡ i + length (partFrom names i) = omega (arith, length-part names i) in
+      rw (part-until names i end e, w) (parts-first names i)
+
+  pub number-here : same (take (end - i) (drop i names)) name ≡ true → numberOf name (split comma (drop i names)) ≡ 0
+  unfolding numberOf
+  number-here h = rw (parts-end, h)
+
+  pub number-last : same (take (end - i) (drop i names)) name ≡ false → end ≡ length names → numberOf name (split comma (drop i names)) ≡ 1
+  unfolding numberOf
+  number-last h last = rw (parts-end, h, parts-none names end (omega arith))
+
+  pub number-on : same (take (end - i) (drop i names)) name ≡ false → end < length names →
+      numberOf name (split comma (drop i names)) ≡ suc (numberOf name (split comma (drop (end + 1) names)))
+  unfolding numberOf
+  number-on h more = rw (parts-end, h, parts-more names end more)
+
+-- ## Whether a name comes later
+parts-placed : {line : List ℕ} {i colon value end : ℕ} → Placed line i colon value end →
+    split comma (drop i line) ≡ partFrom line i ∷ partsAfter line end
+parts-placed {line} {i} p = rw (p .whole) (parts-first line i)
+
+module _ (line name : List ℕ) (at : ℕ) where
+  pub named-none : length line ≤ at → namedIn name (partsAfter line at) ≡ false
+  unfolding namedIn
+  named-none h = rw (parts-none line at h)
+
+  module _ (h : at < length line) where
+    pub named-bad : part.Bad ≡ partAt line (at + 1) → namedIn name (partsAfter line at) ≡ false
+    unfolding namedIn
+    named-bad e = rw (parts-more line at h, parts-first line (at + 1), part-bad line (at + 1) e)
+
+    module _ {colon value end : ℕ} (p : Placed line (at + 1) colon value end) where
+      pub named-here : same name (take (colon - (at + 1)) (drop (at + 1) line)) ≡ true → namedIn name (partsAfter line at) ≡ true
+      unfolding namedIn
+      named-here e = rw (parts-more line at h, parts-placed p, p .field, e)
+
+      pub named-on : same name (take (colon - (at + 1)) (drop (at + 1) line)) ≡ false →
+          namedIn name (partsAfter line at) ≡ namedIn name (partsAfter line end)
+      unfolding namedIn
+      named-on e = rw (parts-more line at h, parts-placed p, p .field, e)
+
+-- ## What is left of a line
+module _ (acc : Fields) (line : List ℕ) (i : ℕ) where
+  pub finish-bad : part.Bad ≡ partAt line i → finish acc (split comma (drop i line)) ≡ noFields
+  unfolding finish
+  finish-bad e = rw (parts-first line i, part-bad line i e)
+
+  pub finish-end : length line ≤ i → finish acc (partsAfter line i) ≡ acc
+  unfolding finish
+  finish-end h = rw (parts-none line i h)
+
+  module _ {colon value end : ℕ} (p : Placed line i colon value end) where
+    abbrev name : List ℕ
+    name = take (colon - i) (drop i line)
+
+    pub finish-seen : seen acc (slotOf name) name (partsAfter line end) ≡ true → finish acc (split comma (drop i line)) ≡ noFields
+    unfolding finish
+    finish-seen e = rw (parts-placed p, p .field, e)
+
+    pub finish-put : seen acc (slotOf name) name (partsAfter line end) ≡ false →
+        finish acc (split comma (drop i line)) ≡ finish (put acc (slotOf name) value) (partsAfter line end)
+    unfolding finish
+    finish-put e = rw (parts-placed p, p .field, e)

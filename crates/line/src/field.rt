@@ -1,0 +1,78 @@
+// One field of a line: a name of 1 to 16 letters, a colon, and digits.
+use numeral::Numeral;
+ghost use Prim.Native.Nat.{_+_};
+ghost use mathlib.Core.Path.{_≡_};
+ghost use lib.ListN.{drop};
+ghost use Rattle.text.specs.Text.{span, isLetter};
+ghost use Rattle.line.specs.Field.{partAt};
+
+// A field by places of its line: where its colon stands, its value, and where it ends.
+pub enum Part {
+    Field {
+        colon: usize,
+        value: u64,
+        end: usize,
+    },
+    Bad,
+}
+
+fn is_letter(b: u8) -> bool
+    ensures { λ r. ⌜ r ≡ isLetter b ⌝ }
+{
+    if 97 <= b {
+        return b <= 122;
+    }
+    if b < 65 {
+        return false;
+    }
+    b <= 90
+}
+
+// The place after the letters at `from`.
+fn letters_end(s: &[u8], from: usize) -> usize
+    ensures { λ r. ⌜ r ≡ from + span isLetter (drop from (now (s .entry))) ⌝ }
+{
+    let mut i = from;
+    while i < s.len() {
+        if is_letter(s[i]) {
+            i += 1;
+        } else {
+            return i;
+        }
+    }
+    i
+}
+
+// The field that stands between `from` and the next comma or the line's end.
+pub fn field_at(line: &[u8], from: usize) -> Part
+    ensures { λ r. ⌜ r ≡ partAt (now (line .entry)) from ⌝ }
+{
+    let colon = letters_end(line, from);
+    let n = colon - from;
+    if n < 1 {
+        return Part::Bad;
+    }
+    if 16 < n {
+        return Part::Bad;
+    }
+    if line.len() <= colon {
+        return Part::Bad;
+    }
+    if line[colon] != 58 {
+        return Part::Bad;
+    }
+    let digits = numeral::hex_at(line, colon + 1);
+    let Numeral::Read { value, next } = digits else {
+        return Part::Bad;
+    };
+    if next < line.len() {
+        if line[next] != 44 {
+            return Part::Bad;
+        }
+    }
+    Part::Field {
+        colon,
+        value,
+        end: next,
+    }
+}

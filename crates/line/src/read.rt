@@ -1,0 +1,159 @@
+// All fields of a line, in one pass: the values of the names that the file's lines are asked for.
+use super::field::Part;
+use super::field::field_at;
+ghost use mathlib.Core.Path.{_≡_};
+ghost use Rattle.text.specs.Text.{split};
+ghost use Rattle.line.specs.Field.{comma};
+ghost use Rattle.line.specs.Fields.{readOf, noFields};
+ghost use Rattle.line.specs.Reading.{numberOf, slotOf, namedIn, put, seen, partsAfter};
+
+// What a line says of each known name, by the name's number: whether it is given, and its value.
+// A line that breaks a rule is not good and gives nothing.
+pub struct Fields {
+    pub good: bool,
+    pub given: [bool; 11],
+    pub values: [u64; 11],
+}
+
+impl Fields {
+    // The names' numbers.
+    pub const H: usize = 0;
+
+    pub const BLOCK_SIZE: usize = 1;
+
+    pub const FORMAT: usize = 2;
+
+    pub const BLOCK: usize = 3;
+
+    pub const CHUNK: usize = 4;
+
+    pub const VERSION: usize = 5;
+
+    pub const LEN: usize = 6;
+
+    pub const NEXT: usize = 7;
+
+    pub const PAGES: usize = 8;
+
+    pub const ROOT: usize = 9;
+
+    pub const FLETCHER: usize = 10;
+
+    pub const NAMES: usize = 11;
+
+    // Nothing is given.
+    fn bad() -> Self
+        ensures { λ r. ⌜ r ≡ noFields ⌝ }
+    {
+        Fields {
+            good: false,
+            given: [false; 11],
+            values: [0; 11],
+        }
+    }
+
+    // One value more: that of the name numbered `slot`. A name that is not known adds nothing.
+    fn put(self, slot: usize, value: u64) -> Self
+        ensures { λ r. ⌜ r ≡ put self slot value ⌝ }
+    {
+        if Fields::NAMES <= slot {
+            return self;
+        }
+        let mut next = self;
+        next.given[slot] = true;
+        next.values[slot] = value;
+        next
+    }
+}
+
+// The place of `name` among `names`, which are joined by commas; their count where it is not there.
+fn number_of(names: &[u8], name: &[u8]) -> usize
+    ensures { λ r. ⌜ r ≡ numberOf (now (name .entry)) (split comma (now (names .entry))) ⌝ }
+{
+    let mut number = 0;
+    let mut i = 0;
+    loop {
+        let end = text::find_byte(names, i, 44);
+        if text::same_bytes(&names[i..end], name) {
+            return number;
+        }
+        number += 1;
+        if end == names.len() {
+            return number;
+        }
+        i = end + 1;
+    }
+}
+
+// The number of a name, `NAMES` for a name that is not known.
+fn slot_of(name: &[u8]) -> usize
+    ensures { λ r. ⌜ r ≡ slotOf (now (name .entry)) ⌝ }
+{
+    number_of(
+        b"H,blockSize,format,block,chunk,version,len,next,pages,root,fletcher",
+        name,
+    )
+}
+
+// Whether a field after the one that ends at `at` has the name `name`. A part that is no field ends the search.
+fn named_later(line: &[u8], at: usize, name: &[u8]) -> bool
+    ensures { λ r. ⌜ r ≡ namedIn (now (name .entry)) (partsAfter (now (line .entry)) at) ⌝ }
+{
+    let mut i = at;
+    while i < line.len() {
+        let from = i + 1;
+        let p = field_at(line, from);
+        let Part::Field {
+            colon,
+            value: _,
+            end,
+        } = p
+        else {
+            return false;
+        };
+        if text::same_bytes(name, &line[from..colon]) {
+            return true;
+        }
+        i = end;
+    }
+    false
+}
+
+// Whether the name numbered `slot` is given already or, where it is not known, comes again after `end`.
+fn repeats(f: Fields, slot: usize, line: &[u8], end: usize, name: &[u8]) -> bool
+    ensures { λ r. ⌜ r ≡ seen f slot (now (name .entry)) (partsAfter (now (line .entry)) end) ⌝ }
+{
+    if slot < Fields::NAMES {
+        f.given[slot]
+    } else {
+        named_later(line, end, name)
+    }
+}
+
+// What `line` says.
+pub fn read_fields(line: &[u8]) -> Fields
+    ensures { λ r. ⌜ r ≡ readOf (now (line .entry)) ⌝ }
+{
+    let mut f = Fields {
+        good: true,
+        given: [false; 11],
+        values: [0; 11],
+    };
+    let mut i = 0;
+    loop {
+        let p = field_at(line, i);
+        let Part::Field { colon, value, end } = p else {
+            return Fields::bad();
+        };
+        let name = &line[i..colon];
+        let slot = slot_of(name);
+        if repeats(f, slot, line, end, name) {
+            return Fields::bad();
+        }
+        f = f.put(slot, value);
+        if end == line.len() {
+            return f;
+        }
+        i = end + 1;
+    }
+}
