@@ -1,0 +1,116 @@
+-- Document 01's worked examples, "Proved examples": one statement over one list, about the definitions.
+--
+--   Answer      what a definition gives, of any sort
+--   Example     what the definition gives, and what 01 says
+--   examples    01's (a) to (j)
+--   all-right   each gives what 01 says
+use Prim.Native.Nat.{ℕ}
+use mathlib.Core.Path.{_≡_, refl}
+use mathlib.Core.Bool.{Bool, true, false}
+use mathlib.Core.List.{List, [], _∷_}
+use mathlib.Core.Option.{Option, none, some}
+use lib.IntN.{pos, negsuc}
+use Rattle.order.specs.declared.Order.{Order}
+use Rattle.order.specs.declared.Order.the-variants.{Less}
+use Rattle.text.specs.Text.{span, every, same}
+use Rattle.fletcher.specs.Fletcher.{reduced, start, addWord, sums, fletcherOf}
+use Rattle.numeral.specs.declared.Numeral.{Numeral}
+use Rattle.numeral.specs.declared.Numeral.the-variants as numeral
+use Rattle.numeral.specs.Hex.{digitOf, hexFrom, shaped, hexOf}
+use Rattle.numeral.specs.Var.{continued, varFrom, limited, varAt}
+use Rattle.position.specs.declared.Bound.{Bound}
+use Rattle.position.specs.declared.Bound.the-variants.{Most, Unbounded}
+use Rattle.position.specs.Position.{chunkOf, offsetOf, codeOf, typeOf, boundOf, checkOf}
+use Rattle.line.specs.Field.{Field, fieldOf}
+use Rattle.line.specs.Fields.{lastComma, rightSum}
+use Rattle.key.specs.Key.{number, text, compareKeys}
+use Rattle.tree.specs.Page.{All}
+
+pub data Answer : Type 0 where
+  numbers : List ℕ → Answer
+  truth : Bool → Answer
+  order : Order → Answer
+  refused : Answer
+
+pub record Example : Type 0 where
+  pub given : Answer
+  pub due : Answer
+
+-- ## Answers of the definitions
+abbrev ofNumeral : Numeral → Answer
+ofNumeral (numeral.Read v next) = numbers (v ∷ [])
+ofNumeral numeral.Bad = refused
+
+abbrev ofBound : Bound → Answer
+ofBound (Most n) = numbers (n ∷ [])
+ofBound Unbounded = refused
+
+abbrev ofField : Option Field → Answer
+ofField none = refused
+ofField (some f) = numbers (f .value ∷ [])
+
+-- ## Texts
+-- `chunk:1,block:2,version:1`
+abbrev footer : List ℕ
+footer =
+    99 ∷ 104 ∷ 117 ∷ 110 ∷ 107 ∷ 58 ∷ 49 ∷ 44 ∷ 98 ∷ 108 ∷ 111 ∷ 99 ∷ 107 ∷ 58 ∷ 50 ∷ 44 ∷ 118 ∷ 101 ∷ 114 ∷ 115 ∷
+    105 ∷ 111 ∷ 110 ∷ 58 ∷ 49 ∷ []
+
+-- `H:2,block:2,blockSize:1000,chunk:7,created:1441235ef73,format:1,version:7`
+abbrev headerText : List ℕ
+headerText =
+    72 ∷ 58 ∷ 50 ∷ 44 ∷ 98 ∷ 108 ∷ 111 ∷ 99 ∷ 107 ∷ 58 ∷ 50 ∷ 44 ∷ 98 ∷ 108 ∷ 111 ∷ 99 ∷ 107 ∷ 83 ∷ 105 ∷ 122 ∷
+    101 ∷ 58 ∷ 49 ∷ 48 ∷ 48 ∷ 48 ∷ 44 ∷ 99 ∷ 104 ∷ 117 ∷ 110 ∷ 107 ∷ 58 ∷ 55 ∷ 44 ∷ 99 ∷ 114 ∷ 101 ∷ 97 ∷ 116 ∷
+    101 ∷ 100 ∷ 58 ∷ 49 ∷ 52 ∷ 52 ∷ 49 ∷ 50 ∷ 51 ∷ 53 ∷ 101 ∷ 102 ∷ 55 ∷ 51 ∷ 44 ∷ 102 ∷ 111 ∷ 114 ∷ 109 ∷ 97 ∷
+    116 ∷ 58 ∷ 49 ∷ 44 ∷ 118 ∷ 101 ∷ 114 ∷ 115 ∷ 105 ∷ 111 ∷ 110 ∷ 58 ∷ 55 ∷ []
+
+-- `H:2,block:2,blockSize:1000,chunk:7,created:1441235ef73,format:1,version:7,fletcher:3044e6cc`
+abbrev headerLine : List ℕ
+headerLine =
+    72 ∷ 58 ∷ 50 ∷ 44 ∷ 98 ∷ 108 ∷ 111 ∷ 99 ∷ 107 ∷ 58 ∷ 50 ∷ 44 ∷ 98 ∷ 108 ∷ 111 ∷ 99 ∷ 107 ∷ 83 ∷ 105 ∷ 122 ∷
+    101 ∷ 58 ∷ 49 ∷ 48 ∷ 48 ∷ 48 ∷ 44 ∷ 99 ∷ 104 ∷ 117 ∷ 110 ∷ 107 ∷ 58 ∷ 55 ∷ 44 ∷ 99 ∷ 114 ∷ 101 ∷ 97 ∷ 116 ∷
+    101 ∷ 100 ∷ 58 ∷ 49 ∷ 52 ∷ 52 ∷ 49 ∷ 50 ∷ 51 ∷ 53 ∷ 101 ∷ 102 ∷ 55 ∷ 51 ∷ 44 ∷ 102 ∷ 111 ∷ 114 ∷ 109 ∷ 97 ∷
+    116 ∷ 58 ∷ 49 ∷ 44 ∷ 118 ∷ 101 ∷ 114 ∷ 115 ∷ 105 ∷ 111 ∷ 110 ∷ 58 ∷ 55 ∷ 44 ∷ 102 ∷ 108 ∷ 101 ∷ 116 ∷ 99 ∷ 104 ∷
+    101 ∷ 114 ∷ 58 ∷ 51 ∷ 48 ∷ 52 ∷ 52 ∷ 101 ∷ 54 ∷ 99 ∷ 99 ∷ []
+
+abbrev position : ℕ
+position = 0x4000004f8c
+
+abbrev example : Answer → Answer → Example
+example given due = record { given = given; due = due }
+
+pub examples : List Example
+examples =
+    -- (a) `chunk:1,block:2,version:1` sums to aed9a4f6
+    example (numbers (fletcherOf footer ∷ [])) (numbers (0xaed9a4f6 ∷ [])) ∷
+    -- (b) the documents' file header line prints 3044e6cc; the rule gives 1a2bd87b, so that copy isn't good
+    example (numbers (fletcherOf headerText ∷ [])) (numbers (0x1a2bd87b ∷ [])) ∷
+    example (truth (rightSum headerLine)) (truth false) ∷
+    -- (c) the empty text sums to ffffffff
+    example (numbers (fletcherOf [] ∷ [])) (numbers (0xffffffff ∷ [])) ∷
+    -- (d) position 4000004f8c: chunk 1, offset 318, code 6, leaf, at most 256 bytes
+    example (numbers (chunkOf position ∷ offsetOf position ∷ codeOf position ∷ typeOf position ∷ [])) (numbers (1 ∷ 318 ∷ 6 ∷ 0 ∷ [])) ∷
+    example (ofBound (boundOf (codeOf position))) (numbers (256 ∷ [])) ∷
+    -- (e) that position with length 200: check 1f7
+    example (numbers (checkOf (chunkOf position) (offsetOf position) 200 ∷ [])) (numbers (0x1f7 ∷ [])) ∷
+    -- (f) codes 0, 1, 30
+    example (ofBound (boundOf 0)) (numbers (32 ∷ [])) ∷
+    example (ofBound (boundOf 1)) (numbers (48 ∷ [])) ∷
+    example (ofBound (boundOf 30)) (numbers (1048576 ∷ [])) ∷
+    -- (g) bytes 80 00 refused as a number, 80 01 is 128
+    example (ofNumeral (varAt 0x80000000 (0x80 ∷ 0 ∷ []) 0)) refused ∷
+    example (ofNumeral (varAt 0x80000000 (0x80 ∷ 1 ∷ []) 0)) (numbers (128 ∷ [])) ∷
+    -- (h) `block:02` is no field
+    example (ofField (fieldOf (98 ∷ 108 ∷ 111 ∷ 99 ∷ 107 ∷ 58 ∷ 48 ∷ 50 ∷ []))) refused ∷
+    -- (i) key -1 before 0
+    example (order (compareKeys (number (negsuc 0)) (number (pos 0)))) (order Less) ∷
+    -- (j) `ab` before `abc`
+    example (order (compareKeys (text (97 ∷ 98 ∷ [])) (text (97 ∷ 98 ∷ 99 ∷ [])))) (order Less) ∷ []
+
+abbrev pub Right : Example → Type 0
+Right e = e .given ≡ e .due
+
+pub all-right : All Right examples
+unfolding examples reduced start addWord sums fletcherOf lastComma rightSum fieldOf span every same digitOf hexFrom shaped hexOf continued varFrom limited varAt boundOf checkOf compareKeys
+all-right =
+    (refl, (refl, (refl, (refl, (refl, (refl, (refl, (refl, (refl, (refl, (refl, (refl, (refl, (refl, (refl, tt)))))))))))))))
