@@ -1,0 +1,106 @@
+// Questions about sums and about numbers as the file writes them.
+use super::input;
+use super::output;
+use fletcher::Sums;
+use numeral::Number;
+use numeral::Numeral;
+
+// `sum BYTES`: the fletcher value.
+fn sum(question: &[u8]) {
+    let mut area = [0u8; input::MOST_BYTES];
+    let n = input::bytes(question, 1, &mut area);
+    output::number(fletcher::sum_text(&area[..n]));
+}
+
+// The sums after so many times the word.
+fn filled(w: u16, count: u64) -> Sums {
+    let mut t = Sums::new();
+    let mut left = count;
+    while 0 < left {
+        t = t.word(w);
+        left -= 1;
+    }
+    t
+}
+
+// `fill BYTE COUNT`: the fletcher value over so many times the byte.
+fn fill(question: &[u8]) {
+    let byte = input::number(question, 1) % 256;
+    let t = filled((byte * 257) as u16, input::number(question, 2) / 2);
+    output::number(t.second as u64 * 65536 + t.first as u64);
+}
+
+// `hex BYTES`: the number that the text is.
+fn hex(question: &[u8]) {
+    let mut area = [0u8; input::MOST_BYTES];
+    let n = input::bytes(question, 1, &mut area);
+    let read = numeral::read_hex(&area[..n]);
+    match read {
+        Number::Value(value) => {
+            output::number(value);
+        }
+        Number::Bad => {
+            output::word(b"bad");
+        }
+    }
+}
+
+// `digits NUMBER`: the number as a text.
+fn digits(question: &[u8]) {
+    let d = numeral::write_hex(input::number(question, 1));
+    let bytes = d.bytes;
+    let start = d.start;
+    output::bytes_from(&bytes, start);
+}
+
+// `be WIDTH AT BYTES`: the big-endian number, 0 where its bytes do not all stand there.
+fn big_endian(question: &[u8]) {
+    let width = input::number(question, 1);
+    let at = input::number(question, 2) as usize;
+    let mut area = [0u8; input::MOST_BYTES];
+    let n = input::bytes(question, 3, &mut area);
+    if width == 2 {
+        output::number(numeral::be16(&area[..n], at) as u64);
+    } else if width == 4 {
+        output::number(numeral::be32(&area[..n], at) as u64);
+    } else {
+        output::number(numeral::be64(&area[..n], at));
+    }
+}
+
+// `var LIMIT AT BYTES`: the variable-size number, and the place after it.
+fn var(question: &[u8]) {
+    let limit = input::number(question, 1);
+    let at = input::number(question, 2) as usize;
+    let mut area = [0u8; input::MOST_BYTES];
+    let n = input::bytes(question, 3, &mut area);
+    let read = numeral::read_var(&area[..n], at, limit);
+    match read {
+        Numeral::Read { value, next } => {
+            output::numbers(&[value, next as u64]);
+        }
+        Numeral::Bad => {
+            output::word(b"bad");
+        }
+    }
+}
+
+// Whether the question is one of these; then it is answered.
+pub fn answered(question: &[u8]) -> bool {
+    if input::is(question, b"sum") {
+        sum(question);
+    } else if input::is(question, b"fill") {
+        fill(question);
+    } else if input::is(question, b"hex") {
+        hex(question);
+    } else if input::is(question, b"digits") {
+        digits(question);
+    } else if input::is(question, b"be") {
+        big_endian(question);
+    } else if input::is(question, b"var") {
+        var(question);
+    } else {
+        return false;
+    }
+    true
+}
