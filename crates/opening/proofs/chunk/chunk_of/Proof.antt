@@ -1,0 +1,24 @@
+use native.Mathlib.Numerals.{add-one}
+use borrow.Author.Needs.{needs}
+use Rattle.opening.proofs.chunk.chunk_of.Statement.{statement}
+use Rattle.opening.proofs.chunk.chunk_of.Tie as tie
+
+returns : tie.Need-returns
+returns c =
+    let a = c .before .before .before .before .before .before .args in
+    rw (c .before .before .before .before .before .value .ensures, c .before .before .before .before .value2 .ensures, c .before .before .value3 .ensures, c .before .value4 .ensures, c .value5 .ensures, add-one (a .r .newline))
+
+pub chunk-of-spec : {M : Type 1} → statement M
+chunk-of-spec =
+    tie.close
+    (tie.spec
+    (λ c κs. search needs)
+    (λ c. search needs)
+    (λ c κs. search needs)
+    (λ c. search needs)
+    (λ c. search needs)
+    (λ c. search needs)
+    (λ c κs. search needs)
+    (λ c κs. search needs)
+    (λ c κs. search needs)
+    returns)

@@ -1,0 +1,29 @@
+use Rattle.opening.specs.Chunk.{footerOf}
+use borrow.Author.Needs.{needs}
+use Rattle.opening.proofs.chunk.is_footer.Statement.{statement}
+use Rattle.opening.proofs.chunk.is_footer.Tie as tie
+
+returns : tie.Need-returns
+unfolding footerOf
+returns c = rw (← c .before .before .before .before .says .ensures, c .before .before .before .if1 .taken, ← c .before .before .says2 .ensures, c .before .if2 .taken, ← c .says3 .ensures)
+
+returns-2 : tie.Need-returns-2
+unfolding footerOf
+returns-2 c = rw (← c .before .before .before .says .ensures, c .before .before .if1 .taken, ← c .before .says2 .ensures, c .if2 .left)
+
+returns-3 : tie.Need-returns-3
+unfolding footerOf
+returns-3 c = rw (← c .before .says .ensures, c .if1 .left)
+
+pub is-footer-spec : {M : Type 1} → statement M
+is-footer-spec =
+    tie.close
+    (tie.spec
+    (λ c. search needs)
+    (λ c. search needs)
+    (λ c κs. search needs)
+    (λ c κs. search needs)
+    (λ c κs. search needs)
+    returns
+    returns-2
+    returns-3)

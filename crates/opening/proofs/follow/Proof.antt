@@ -1,0 +1,48 @@
+use denote.Ref.{now}
+use mathlib.Core.Path.{_≡_, refl, sym, _∙_}
+use Rattle.opening.specs.Image.{blocksIn}
+use Rattle.opening.specs.Opening.{chain}
+use Rattle.opening.specs.ChainLaws.{above, successor-falls, chain-last, chain-next}
+use borrow.Author.Needs.{needs}
+use Rattle.opening.proofs.follow.Statement.{statement}
+use Rattle.opening.proofs.follow.Tie as tie
+
+abbrev Inv-loop : tie.InvT-loop
+Inv-loop image newest₀ newest = chain image (blocksIn image) newest ≡ chain image (blocksIn image) newest₀
+
+abbrev μ-loop : tie.MeasureT-loop
+μ-loop image newest₀ newest = above image (newest .version) (blocksIn image)
+
+loop-holds : tie.Need-loop-holds Inv-loop μ-loop
+loop-holds c = refl
+
+returns : tie.Need-returns Inv-loop μ-loop
+returns c =
+    let image = now (c .before .before .before .before .before .args .image) in
+    sym (chain-last image (blocksIn image) (c .before .before .before .loop .newest) (sym (c .before .before .successor-of .ensures) ∙ c .enum-told .given .1)) ∙ c .before .before .before .loop .inv
+
+loop-less : tie.Need-loop-less Inv-loop μ-loop
+loop-less c =
+    let l = c .before .before .before .before .loop in
+    let a = c .before .before .before .before .before .before .args in
+    successor-falls (now (a .image)) (l .newest) (sym (c .before .before .before .successor-of .ensures) ∙ c .before .s .given .1)
+
+loop-again : tie.Need-loop-again Inv-loop μ-loop
+loop-again c =
+    let l = c .before .before .before .before .loop in
+    let a = c .before .before .before .before .before .before .args in
+    sym (chain-next (now (a .image)) (l .newest) (sym (c .before .before .before .successor-of .ensures) ∙ c .before .s .given .1)) ∙ l .inv
+
+pub follow-spec : {M : Type 1} → statement M
+follow-spec =
+    tie.close
+    (tie.spec
+    Inv-loop
+    μ-loop
+    loop-holds
+    (λ c κs. search needs)
+    (λ c. search needs)
+    (λ c. search needs)
+    returns
+    loop-less
+    loop-again)

@@ -1,0 +1,20 @@
+use Rattle.opening.specs.Opening.{formatRight}
+use borrow.Author.Needs.{needs}
+use Rattle.opening.proofs.header.is_format.Statement.{statement}
+use Rattle.opening.proofs.header.is_format.Tie as tie
+
+returns : tie.Need-returns
+unfolding formatRight
+returns c = rw (← c .before .before .before .before .says .ensures, c .before .before .before .if1 .taken, ← c .before .before .says2 .ensures, c .before .if2 .taken, ← c .says3 .ensures)
+
+returns-2 : tie.Need-returns-2
+unfolding formatRight
+returns-2 c = rw (← c .before .before .before .says .ensures, c .before .before .if1 .taken, ← c .before .says2 .ensures, c .if2 .left)
+
+returns-3 : tie.Need-returns-3
+unfolding formatRight
+returns-3 c = rw (← c .before .says .ensures, c .if1 .left)
+
+pub is-format-spec : {M : Type 1} → statement M
+is-format-spec =
+    tie.close (tie.spec (λ c κs. search needs) (λ c κs. search needs) (λ c κs. search needs) returns returns-2 returns-3)

@@ -1,0 +1,21 @@
+use Rattle.opening.specs.Opening.{namesAny}
+use borrow.Author.Needs.{needs}
+use Rattle.opening.proofs.header.names_any.Statement.{statement}
+use Rattle.opening.proofs.header.names_any.Tie as tie
+
+returns : tie.Need-returns
+unfolding namesAny
+returns c = rw (← c .before .gives .ensures, c .if1 .taken)
+
+returns-2 : tie.Need-returns-2
+unfolding namesAny
+returns-2 c = rw (← c .before .before .before .gives .ensures, c .before .before .if1 .left, ← c .before .gives2 .ensures, c .if2 .taken)
+
+returns-3 : tie.Need-returns-3
+unfolding namesAny
+returns-3 c = rw (← c .before .before .before .before .gives .ensures, c .before .before .before .if1 .left, ← c .before .before .gives2 .ensures, c .before .if2 .left, ← c .gives3 .ensures)
+
+pub names-any-spec : {M : Type 1} → statement M
+names-any-spec =
+    tie.close
+    (tie.spec (λ c κs. search needs) (λ c κs. search needs) (λ c κs. search needs) returns returns-2 returns-3)

@@ -1,0 +1,176 @@
+-- The chain ends: versions rise along it, so no block comes twice, and no image makes it longer than its blocks.
+--
+--   counted s v        1 where a chunk stands that is newer than version v, else 0
+--   above image v n    how many of the first n blocks hold a standing chunk that is newer than version v
+use Prim.Native.Nat.{ℕ, zero, suc, _+_, _<_, _≤_}
+use mathlib.Core.Path.{_≡_, refl, sym, _∙_}
+use mathlib.Core.Bool.{Bool, true, false, cond}
+use mathlib.Core.List.{List}
+use native.Mathlib.Omega.{arith}
+use borrow.Author.Tests.{ltb-true, ltb-false, lt-ltb, le-ltb}
+use lib.Dec.{ltb}
+use Rattle.opening.specs.declared.chunk.Chunk.{Chunk}
+use Rattle.opening.specs.declared.chunk.Standing.{Standing}
+use Rattle.opening.specs.declared.chunk.Standing.the-variants.{Stands, Nothing}
+use Rattle.opening.specs.Image.{blocksIn}
+use Rattle.opening.specs.Chunk.{standsAt}
+use Rattle.opening.specs.Opening.{kept, newer, successor, onStanding, chain}
+use Rattle.opening.specs.ChunkLaws.{Stood, stands-block, stands-stood}
+
+unfoldable pub counted : Standing → ℕ → ℕ
+counted Nothing v = 0
+counted (Stands c) v = cond (newer v c) 1 0
+
+unfoldable pub above : List ℕ → ℕ → ℕ → ℕ
+above image v zero = 0
+above image v (suc n) = counted (standsAt image n) v + above image v n
+
+-- ## A chunk that is kept
+pub kept-told : (P : Chunk → Bool) (s : Standing) {d : Chunk} → kept P s ≡ Stands d → (s ≡ Stands d) × (P d ≡ true)
+kept-told P Nothing e = absurd (let z : _≡_ {A = ℕ} 0 1 = cc in omega arith)
+kept-told P (Stands c) {d} e = go (P c) refl e
+  where
+    go : (t : Bool) → P c ≡ t → cond t (Stands c) Nothing ≡ Stands d → (Stands c ≡ Stands d) × (P d ≡ true)
+    go true q e = let s : c ≡ d = cc in (e, rw s at q)
+    go false q e = absurd (let z : _≡_ {A = ℕ} 0 1 = cc in omega arith)
+
+-- ## How many are newer
+module _ (v : ℕ) where
+  counted-most : (s : Standing) → counted s v ≤ 1
+  unfolding counted
+  counted-most Nothing = omega arith
+  counted-most (Stands c) = go (newer v c)
+    where
+      go : (t : Bool) → cond t 1 0 ≤ 1
+      go true = omega arith
+      go false = omega arith
+
+  pub above-most : (image : List ℕ) (n : ℕ) → above image v n ≤ n
+  unfolding above
+  above-most image zero = omega arith
+  above-most image (suc n) = omega (arith, counted-most (standsAt image n), above-most image n)
+
+module _ (v w : ℕ) (h : v ≤ w) where
+  counted-fewer : (s : Standing) → counted s w ≤ counted s v
+  unfolding counted
+  counted-fewer Nothing = omega arith
+  counted-fewer (Stands c) = go (newer w c) refl (newer v c) refl
+    where
+      go : (t : Bool) → newer w c ≡ t → (u : Bool) → newer v c ≡ u → cond t 1 0 ≤ cond u 1 0
+      go true p true q = omega arith
+      go true p false q = absurd (omega (arith, ltb-true w (c .version) p, ltb-false v (c .version) q))
+      go false p u q = omega arith
+
+  above-fewer : (image : List ℕ) (n : ℕ) → above image w n ≤ above image v n
+  unfolding above
+  above-fewer image zero = omega arith
+  above-fewer image (suc n) = omega (arith, counted-fewer (standsAt image n), above-fewer image n)
+
+-- a chunk counts for the versions below its own, and not for its own
+module _ (image : List ℕ) (b v : ℕ) {d : Chunk} (s : standsAt image b ≡ Stands d) (h : v < d .version) where
+  counted-old : counted (standsAt image b) v ≡ 1
+  unfolding counted
+  counted-old = rw (s, lt-ltb v (d .version) h)
+
+  counted-own : counted (standsAt image b) (d .version) ≡ 0
+  unfolding counted
+  counted-own = rw (s, le-ltb (d .version) (d .version) (omega arith))
+
+  pub above-falls : (n : ℕ) → b < n → above image (d .version) n < above image v n
+  unfolding above
+  above-falls zero k = absurd (omega arith)
+  above-falls (suc n) k = go (ltb b n) refl (above-falls n)
+    where
+      go : (t : Bool) → ltb b n ≡ t → (b < n → above image (d .version) n < above image v n) →
+          above image (d .version) (suc n) < above image v (suc n)
+      go true e ih = omega (arith, ih (ltb-true b n e), counted-fewer v (d .version) (omega arith) (standsAt image n))
+      go false e ih =
+          let here : b ≡ n = omega (arith, ltb-false b n e) in
+          let old : counted (standsAt image n) v ≡ 1 = rw here at counted-old in
+          let own : counted (standsAt image n) (d .version) ≡ 0 = rw here at counted-own in
+          omega (arith, above-fewer v (d .version) (omega arith) image n)
+
+-- ## One step
+module _ (image : List ℕ) (c : Chunk) {d : Chunk} (e : successor image c ≡ Stands d) where
+  successor-told : (standsAt image (c .next) ≡ Stands d) × (newer (c .version) d ≡ true)
+  unfolding successor
+  successor-told = kept-told (newer (c .version)) (standsAt image (c .next)) e
+
+  pub successor-newer : c .version < d .version
+  successor-newer = ltb-true (c .version) (d .version) (successor-told .1)
+
+  pub successor-stood : Stood image d
+  successor-stood = stands-stood image (c .next) (successor-told .0)
+
+  -- fewer chunks are newer than the successor: the measure of the loop that follows the chain
+  pub successor-falls : above image (d .version) (blocksIn image) < above image (c .version) (blocksIn image)
+  successor-falls =
+      let s = successor-stood in
+      let b = stands-block image (c .next) (successor-told .0) in
+      above-falls image (c .next) (c .version) (successor-told .0) successor-newer (blocksIn image) (omega (arith, s .len-some, s .inside))
+
+-- ## The whole chain
+-- so many steps are enough
+unfoldable Enough : List ℕ → Chunk → ℕ → Type 0
+Enough image c n = above image (c .version) (blocksIn image) ≤ n
+
+blocks-enough : (image : List ℕ) (c : Chunk) → Enough image c (blocksIn image)
+unfolding Enough
+blocks-enough image c = above-most (c .version) image (blocksIn image)
+
+-- what holds of every last chunk holds where so many steps lead that they are enough
+module _ (image : List ℕ) (P : ℕ → Chunk → Type 0) (last : (n : ℕ) (c : Chunk) → successor image c ≡ Nothing → P n c)
+    (on : (n : ℕ) (c d : Chunk) → successor image c ≡ Stands d → P n d → P (suc n) c) where
+  along : (n : ℕ) (c : Chunk) → Enough image c n → P n c
+  unfolding Enough
+  along zero c h = go (successor image c) refl
+    where
+      go : (s : Standing) → successor image c ≡ s → P 0 c
+      go Nothing e = last 0 c e
+      go (Stands d) e = absurd (omega (arith, successor-falls image c e))
+  along (suc n) c h = go (successor image c) refl (along n)
+    where
+      go : (s : Standing) → successor image c ≡ s → ((d : Chunk) → Enough image d n → P n d) → P (suc n) c
+      go Nothing e ih = last (suc n) c e
+      go (Stands d) e ih = on n c d e (ih d (omega (arith, successor-falls image c e)))
+
+pub chain-last : (image : List ℕ) (n : ℕ) (c : Chunk) → successor image c ≡ Nothing → chain image n c ≡ c
+unfolding chain
+chain-last image zero c e = refl
+chain-last image (suc n) c e = rw e
+
+chain-on : (image : List ℕ) (n : ℕ) (c d : Chunk) → successor image c ≡ Stands d → chain image (suc n) c ≡ chain image n d
+unfolding chain
+chain-on image n c d e = rw e
+
+-- a step more leads no further
+chain-enough : (image : List ℕ) (n : ℕ) (c : Chunk) → Enough image c n → chain image n c ≡ chain image (suc n) c
+chain-enough image =
+    along image (λ n c. chain image n c ≡ chain image (suc n) c)
+    (λ n c e. chain-last image n c e ∙ sym (chain-last image (suc n) c e))
+    (λ n c d e h. chain-on image n c d e ∙ h ∙ sym (chain-on image (suc n) c d e))
+
+-- "while a chunk stands at `next` with a strictly higher version, it becomes the newest": the number of steps never cuts it off
+pub chain-whole : (image : List ℕ) (c : Chunk) →
+    chain image (blocksIn image) c ≡ onStanding (successor image c) c (chain image (blocksIn image))
+unfolding chain
+chain-whole image c = chain-enough image (blocksIn image) c (blocks-enough image c)
+
+pub chain-next : (image : List ℕ) (c : Chunk) {d : Chunk} → successor image c ≡ Stands d →
+    chain image (blocksIn image) c ≡ chain image (blocksIn image) d
+chain-next image c e = rw (chain-whole image c, e)
+
+-- nothing newer stands at the last chunk's `next`
+pub chain-ended : (image : List ℕ) (c : Chunk) → successor image (chain image (blocksIn image) c) ≡ Nothing
+chain-ended image c =
+    along image (λ n c. successor image (chain image n c) ≡ Nothing)
+    (λ n c e. rw (chain-last image n c e) e)
+    (λ n c d e h. rw (chain-on image n c d e) h)
+    (blocksIn image) c (blocks-enough image c)
+
+pub chain-stood : (image : List ℕ) {c : Chunk} → Stood image c → Stood image (chain image (blocksIn image) c)
+chain-stood image {c} =
+    along image (λ n c. Stood image c → Stood image (chain image n c))
+    (λ n c e s. rw (chain-last image n c e) s)
+    (λ n c d e h s. rw (chain-on image n c d e) (h (successor-stood image c e)))
+    (blocksIn image) c (blocks-enough image c)

@@ -1,0 +1,53 @@
+-- When a chunk stands at a block, after document 01, "Opening".
+--
+--   Chunk              the struct: id, block, len (in blocks), first (where its pages may begin), next, root, version
+--   needed r           a chunk header's reading has all the fields that are needed
+--   footed image c     the chunk's footer is right and says the same chunk, block and version
+--   standsAt image b   the chunk that stands at block b, if one does
+use Prim.Native.Nat.{ℕ, suc, _+_, _^_}
+use mathlib.Core.Bool.{Bool, cond, _&&_}
+use mathlib.Core.List.{List}
+use lib.Dec.{eqb, leb, ltb}
+use Rattle.opening.specs.Names.{block, chunk, len, next, pages, root, version}
+use Rattle.opening.specs.declared.image.Reading.{Reading}
+use Rattle.opening.specs.declared.chunk.Chunk.{Chunk}
+use Rattle.opening.specs.declared.chunk.Standing.{Standing}
+use Rattle.opening.specs.declared.chunk.Standing.the-variants.{Stands, Nothing}
+use Rattle.opening.specs.Image.{blocksIn, chunkLine, footerLine, gives, value, says}
+
+-- "its header line has chunk, block, len, next, pages, root, version"
+unfoldable pub needed : Reading → Bool
+needed r =
+    gives r chunk && (gives r block && (gives r len && (gives r next && (gives r pages && (gives r root && gives r version)))))
+
+-- "chunk is below 2^26; block is b; len is at least 1; b+len is at most the image's blocks"
+unfoldable pub fitting : ℕ → ℕ → Reading → Bool
+fitting blocks b r =
+    ltb (value r chunk) (2 ^ 26) && (eqb (value r block) b && (leb 1 (value r len) && leb (b + value r len) blocks))
+
+-- what the header says; its pages begin after its newline
+abbrev pub chunkOf : ℕ → Reading → Chunk
+chunkOf b r =
+    record {
+      id = value r chunk;
+      block = b;
+      len = value r len;
+      first = suc (r .newline);
+      next = value r next;
+      root = value r root;
+      version = value r version;
+    }
+
+-- "the last 128 bytes of block b+len-1 are a footer line with a right `fletcher` and the same chunk, block and version"
+unfoldable pub footerOf : Chunk → Reading → Bool
+footerOf c f =
+    says f chunk (c .id) && (says f block (c .block) && says f version (c .version))
+
+unfoldable pub footed : List ℕ → Chunk → Standing
+footed image c = cond (footerOf c (footerLine image (c .block + c .len))) (Stands c) Nothing
+
+-- "A chunk stands at block b if b is at least 2; [..]"
+unfoldable pub standsAt : List ℕ → ℕ → Standing
+standsAt image b =
+    let r = chunkLine image b in
+    cond (leb 2 b && (needed r && fitting (blocksIn image) b r)) (footed image (chunkOf b r)) Nothing

@@ -1,0 +1,121 @@
+-- Laws of the image, its blocks and its lines.
+use Prim.Native.Nat.{ℕ, zero, suc, _+_, _*_, _-_, _/_, _^_, _<_, _≤_, min}
+use mathlib.Core.Path.{_≡_, refl, sym, _∙_, ap}
+use mathlib.Core.Bool.{Bool, true, false, cond}
+use mathlib.Core.List.{List}
+use native.Mathlib.Omega.{arith}
+use borrow.Author.Tests.{ltb-true}
+use lib.Dec.{eqb, ltb}
+use lib.ListN.{length, getD, take, drop, length-take, length-drop, drop-of-length-le}
+use lib.Seq.{take-all, take-nil}
+use Rattle.text.specs.Text.{span, isNot}
+use Rattle.text.specs.Laws.{within-true}
+use Rattle.line.specs.declared.Line.{Line}
+use Rattle.line.specs.declared.Line.the-variants.{At, Nothing}
+use Rattle.line.specs.Line.{lineOf, trimmed}
+use Rattle.opening.specs.Image.{blockSize, blocksOf, sizeRight, blocksIn, plain, areaAt, plainLine, chunkLine}
+
+-- ## Blocks
+module _ (image : List ℕ) where
+  pub blocks-right : sizeRight image ≡ true → blocksIn image ≡ blocksOf image
+  unfolding blocksIn
+  blocks-right e = rw e
+
+  pub blocks-wrong : sizeRight image ≡ false → blocksIn image ≡ 0
+  unfolding blocksIn
+  blocks-wrong e = rw e
+
+  -- an image of right size has blocks, other bytes have none
+  pub size-right : (blocksIn image ≡ 0 → ⊥) → sizeRight image ≡ true
+  size-right f = go (sizeRight image) refl
+    where
+      go : (t : Bool) → sizeRight image ≡ t → sizeRight image ≡ true
+      go true e = e
+      go false e = absurd (f (blocks-wrong e))
+
+  pub size-wrong : blocksIn image ≡ 0 → sizeRight image ≡ false
+  size-wrong z = go (sizeRight image) refl
+    where
+      go : (t : Bool) → sizeRight image ≡ t → sizeRight image ≡ false
+      go true e = absurd (omega (arith, blocks-right e, within-true 3 268435456 (blocksOf image) e .0))
+      go false e = e
+
+  pub blocks-most : blocksIn image ≤ 2 ^ 28
+  blocks-most = go (sizeRight image) refl
+    where
+      go : (t : Bool) → sizeRight image ≡ t → blocksIn image ≤ 2 ^ 28
+      go true e = omega (arith, blocks-right e, within-true 3 268435456 (blocksOf image) e .1)
+      go false e = omega (arith, blocks-wrong e)
+
+  -- every block is whole
+  pub blocks-whole : blocksIn image * blockSize ≤ length image
+  blocks-whole = go (sizeRight image) refl
+    where
+      go : (t : Bool) → sizeRight image ≡ t → blocksIn image * blockSize ≤ length image
+      go true e = omega (arith, blocks-right e)
+      go false e = omega (arith, blocks-wrong e)
+
+-- ## Areas
+module _ (image : List ℕ) (at n : ℕ) where
+  pub area-past : length image ≤ at → areaAt image (length image) (length image - length image) ≡ areaAt image at n
+  area-past h =
+      let end : length image ≤ length image = omega arith in
+      rw (drop-of-length-le image h, drop-of-length-le image end) (take-nil (length image - length image) ∙ sym (take-nil n))
+
+  pub area-last : length image - at ≤ n → areaAt image at (length image - at) ≡ areaAt image at n
+  area-last h =
+      take-all (length image - at) (drop at image) (rw (length-drop at image) (omega arith)) ∙
+      sym (take-all n (drop at image) (rw (length-drop at image) (omega arith)))
+
+  pub area-length : length (areaAt image at n) ≤ n
+  area-length = rw (length-take n (drop at image)) (omega arith)
+
+-- "block 524287 starts at byte 2147479552, block 524288 at 2147483648": no 32 bits hold what follows
+pub block-524287 : (image : List ℕ) → chunkLine image 524287 ≡ plainLine (areaAt image 2147479552 1024)
+unfolding chunkLine
+block-524287 image = refl
+
+pub block-524288 : (image : List ℕ) → chunkLine image 524288 ≡ plainLine (areaAt image 2147483648 1024)
+unfolding chunkLine
+block-524288 image = refl
+
+-- ## Lines
+trimmed-most : (n : ℕ) (s : List ℕ) → trimmed n s ≤ n
+unfolding trimmed
+trimmed-most zero s = omega arith
+trimmed-most (suc n) s = go (eqb (getD s n 0) 32) (trimmed-most n s)
+  where
+    go : (t : Bool) → trimmed n s ≤ n → cond t (trimmed n s) (suc n) ≤ suc n
+    go true h = omega arith
+    go false h = omega arith
+
+-- a line stands before its newline, which stands in the area
+pub record LineIn (area : List ℕ) (n newline : ℕ) : Type 0 where
+  pub before : n ≤ newline
+  pub inside : newline < length area
+
+pub line-in : (area : List ℕ) {n newline : ℕ} → lineOf area ≡ At n newline → LineIn area n newline
+unfolding lineOf
+line-in area {n} {newline} e = go (ltb at (length area)) refl e
+  where
+    at : ℕ
+    at = span (isNot 10) area
+
+    go : (t : Bool) → ltb at (length area) ≡ t → cond t (At (trimmed at area) at) Nothing ≡ At n newline → LineIn area n newline
+    go true q e =
+        let a : trimmed at area ≡ n = cc in
+        let b : at ≡ newline = cc in
+        record { before = omega (arith, trimmed-most at area); inside = omega (arith, ltb-true at (length area) q) }
+    go false q e = absurd (let z : _≡_ {A = ℕ} 0 1 = cc in omega arith)
+
+-- the pages of a chunk may begin within 1,024 bytes
+pub newline-small : (image : List ℕ) (b : ℕ) → chunkLine image b .newline < 1024
+unfolding chunkLine
+newline-small image b = go (lineOf area) refl
+  where
+    area : List ℕ
+    area = areaAt image (b * blockSize) 1024
+
+    go : (l : Line) → lineOf area ≡ l → plain area l .newline < 1024
+    go Nothing e = omega arith
+    go (At n newline) e = omega (arith, line-in area e .inside, area-length image (b * blockSize) 1024)

@@ -1,0 +1,120 @@
+-- Opening, after document 01, "Opening": from the image to the newest chunk.
+--
+--   Copy                     what a good file header copy says: nothing more, or block, chunk and version
+--   copyOf r                 the good copy that a file header's reading is, if it is one
+--   counting a b             the copy that counts, of two
+--   headerStart, footerStart the two starts
+--   start image h            the start that is taken
+--   chain image n c          the newest chunk from c on, in at most n steps
+--   opened image             the newest chunk, or the refusal
+use Prim.Native.Nat.{ℕ, zero, suc, _+_}
+use mathlib.Core.Bool.{Bool, true, false, cond, not, _&&_, _||_}
+use mathlib.Core.List.{List}
+use lib.Dec.{eqb, ltb}
+use Rattle.refusal.specs.declared.Refusal.{Refusal}
+use Rattle.refusal.specs.Refusal.{badImageSize, noHeader, noStart}
+use Rattle.opening.specs.Names.{h, blockSize, format, block, chunk, version}
+use Rattle.opening.specs.declared.image.Reading.{Reading}
+use Rattle.opening.specs.declared.chunk.Chunk.{Chunk}
+use Rattle.opening.specs.declared.chunk.Standing.{Standing}
+use Rattle.opening.specs.declared.chunk.Standing.the-variants.{Stands, Nothing}
+use Rattle.opening.specs.declared.header.Copy.{Copy}
+use Rattle.opening.specs.declared.header.Copy.the-variants.{Names, Plain, NoCopy}
+use Rattle.opening.specs.declared.Opened.{Opened}
+use Rattle.opening.specs.declared.Opened.the-variants.{Newest, Refused}
+use Rattle.opening.specs.Image.{blocksIn, sizeRight, headerLine, footerLine, gives, value, says}
+use Rattle.opening.specs.Chunk.{standsAt}
+
+-- ## The file header
+-- "A file header copy [..] is good if its line has a right `fletcher`, H:2, blockSize:1000, format:1, and either all of block,
+-- chunk, version or none."
+unfoldable pub formatRight : Reading → Bool
+formatRight r = says r h 2 && (says r blockSize 0x1000 && says r format 1)
+
+unfoldable pub namesAll : Reading → Bool
+namesAll r = gives r block && (gives r chunk && gives r version)
+
+unfoldable pub namesAny : Reading → Bool
+namesAny r = gives r block || (gives r chunk || gives r version)
+
+unfoldable pub copyOf : Reading → Copy
+copyOf r =
+    cond (formatRight r)
+    (cond (namesAll r) (Names (value r block) (value r chunk) (value r version)) (cond (namesAny r) NoCopy Plain))
+    NoCopy
+
+-- "Both good: the larger version, a copy without version counting lowest, the first copy at a tie."
+unfoldable pub counting : Copy → Copy → Copy
+counting NoCopy b = b
+counting Plain NoCopy = Plain
+counting Plain Plain = Plain
+counting Plain (Names k c v) = Names k c v
+counting (Names k c v) NoCopy = Names k c v
+counting (Names k c v) Plain = Names k c v
+counting (Names k c v) (Names l d w) = cond (ltb v w) (Names l d w) (Names k c v)
+
+unfoldable pub headerOf : List ℕ → Copy
+headerOf image = counting (copyOf (headerLine image 0)) (copyOf (headerLine image 1))
+
+-- ## The two starts
+abbrev pub kept : (Chunk → Bool) → Standing → Standing
+kept P Nothing = Nothing
+kept P (Stands c) = cond (P c) (Stands c) Nothing
+
+abbrev pub hasId : ℕ → Chunk → Bool
+hasId id k = eqb (k .id) id
+
+abbrev pub endsAt : ℕ → Chunk → Bool
+endsAt e k = eqb (k .block + k .len) e
+
+abbrev pub newer : ℕ → Chunk → Bool
+newer v k = ltb v (k .version)
+
+-- "the chunk standing at the file header's block with the header's chunk id, if named"
+unfoldable pub headerStart : List ℕ → Copy → Standing
+headerStart image NoCopy = Nothing
+headerStart image Plain = Nothing
+headerStart image (Names b c v) = kept (hasId c) (standsAt image b)
+
+-- "the chunk standing at the block that the image's last 128 bytes name as a footer, if it ends where the image ends"
+unfoldable pub footerStart : List ℕ → Standing
+footerStart image =
+    let f = footerLine image (blocksIn image) in
+    cond (gives f block) (kept (endsAt (blocksIn image)) (standsAt image (value f block))) Nothing
+
+-- "The higher version is taken, the lower block at a tie."
+unfoldable pub higher : Standing → Standing → Standing
+higher Nothing b = b
+higher (Stands a) Nothing = Stands a
+higher (Stands a) (Stands b) =
+    cond (ltb (a .version) (b .version) || (eqb (a .version) (b .version) && ltb (b .block) (a .block))) (Stands b) (Stands a)
+
+-- ## The chain
+-- the chunk at `next`, if it has a strictly higher version
+unfoldable pub successor : List ℕ → Chunk → Standing
+successor image c = kept (newer (c .version)) (standsAt image (c .next))
+
+abbrev pub onStanding : {A : Type 0} → Standing → A → (Chunk → A) → A
+onStanding Nothing a f = a
+onStanding (Stands c) a f = f c
+
+-- "Then, while a chunk stands at `next` with a strictly higher version, it becomes the newest."
+unfoldable pub chain : List ℕ → ℕ → Chunk → Chunk
+chain image zero c = c
+chain image (suc n) c = onStanding (successor image c) c (chain image n)
+
+-- no chain is longer than the image has blocks: its versions rise, so its blocks differ (ChainLaws)
+unfoldable pub newestFrom : List ℕ → Standing → Opened
+newestFrom image Nothing = Refused noStart
+newestFrom image (Stands c) = Newest (chain image (blocksIn image) c)
+
+abbrev pub good : Copy → Bool
+good NoCopy = false
+good Plain = true
+good (Names b c v) = true
+
+abbrev pub openedBy : List ℕ → Copy → Opened
+openedBy image copy = cond (good copy) (newestFrom image (higher (headerStart image copy) (footerStart image))) (Refused noHeader)
+
+unfoldable pub opened : List ℕ → Opened
+opened image = cond (sizeRight image) (openedBy image (headerOf image)) (Refused badImageSize)

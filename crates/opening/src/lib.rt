@@ -1,0 +1,156 @@
+// Opening a store: from any bytes to the newest chunk.
+mod chunk;
+mod header;
+mod image;
+
+pub use chunk::Chunk;
+pub use chunk::Standing;
+pub use chunk::stands_at;
+pub use header::Copy;
+pub use header::header_of;
+use header::is_good;
+pub use image::Reading;
+pub use image::blocks_in;
+pub use image::chunk_line;
+pub use image::footer_line;
+pub use image::header_line;
+use line::Fields;
+use refusal::Refusal;
+ghost use mathlib.Core.Path.{_≡_};
+ghost use Rattle.opening.specs.Image.{blocksIn};
+ghost use Rattle.opening.specs.Chunk.{standsAt};
+ghost use Rattle.opening.specs.Opening.{kept, hasId, headerStart, footerStart, higher, successor, chain, newestFrom, opened};
+
+// The newest chunk, or why the image does not open.
+pub enum Opened {
+    Newest(Chunk),
+    Refused(Refusal),
+}
+
+// The chunk standing at a block, if it has the id.
+fn named_start(image: &[u8], block: u64, id: u64) -> Standing
+    ensures { λ r. ⌜ r ≡ kept (hasId id) (standsAt (now (image .entry)) block) ⌝ }
+{
+    let s = stands_at(image, block);
+    let Standing::Stands(c) = s else {
+        return Standing::Nothing;
+    };
+    if c.id as u64 == id {
+        s
+    } else {
+        Standing::Nothing
+    }
+}
+
+// The chunk standing at the file header's block with the header's chunk id, if named.
+fn header_start(image: &[u8], copy: Copy) -> Standing
+    ensures { λ r. ⌜ r ≡ headerStart (now (image .entry)) copy ⌝ }
+{
+    match copy {
+        Copy::Names {
+            block,
+            chunk,
+            version: _,
+        } => named_start(image, block, chunk),
+        Copy::Plain => Standing::Nothing,
+        Copy::NoCopy => Standing::Nothing,
+    }
+}
+
+// The chunk that the image's last footer names, if it ends where the image ends.
+fn footer_start(image: &[u8]) -> Standing
+    ensures { λ r. ⌜ r ≡ footerStart (now (image .entry)) ⌝ }
+{
+    let blocks = blocks_in(image);
+    let r = footer_line(image, blocks);
+    if r.gives(Fields::BLOCK) {} else {
+        return Standing::Nothing;
+    }
+    let s = stands_at(image, r.value(Fields::BLOCK));
+    let Standing::Stands(c) = s else {
+        return Standing::Nothing;
+    };
+    if c.block as u64 + c.len as u64 == blocks as u64 {
+        s
+    } else {
+        Standing::Nothing
+    }
+}
+
+// The start with the higher version, the lower block at a tie.
+fn higher_start(a: Standing, b: Standing) -> Standing
+    ensures { λ r. ⌜ r ≡ higher a b ⌝ }
+{
+    let Standing::Stands(x) = a else {
+        return b;
+    };
+    let Standing::Stands(y) = b else {
+        return a;
+    };
+    if x.version < y.version {
+        return b;
+    }
+    if y.version < x.version {
+        return a;
+    }
+    if y.block < x.block {
+        return b;
+    }
+    a
+}
+
+// The chunk at `next`, if it has a strictly higher version.
+fn successor_of(image: &[u8], c: Chunk) -> Standing
+    ensures { λ r. ⌜ r ≡ successor (now (image .entry)) c ⌝ }
+{
+    let s = stands_at(image, c.next);
+    let Standing::Stands(d) = s else {
+        return Standing::Nothing;
+    };
+    if c.version < d.version {
+        s
+    } else {
+        Standing::Nothing
+    }
+}
+
+// The newest chunk of the chain that begins at `c`. Versions rise, so no block comes twice.
+fn follow(image: &[u8], c: Chunk) -> Chunk
+    ensures { λ r. ⌜ r ≡ chain (now (image .entry)) (blocksIn (now (image .entry))) c ⌝ }
+{
+    let mut newest = c;
+    loop {
+        let s = successor_of(image, newest);
+        let Standing::Stands(d) = s else {
+            return newest;
+        };
+        newest = d;
+    }
+}
+
+// The newest chunk from a start on.
+fn newest_from(image: &[u8], start: Standing) -> Opened
+    ensures { λ r. ⌜ r ≡ newestFrom (now (image .entry)) start ⌝ }
+{
+    let Standing::Stands(c) = start else {
+        return Opened::Refused(Refusal::new(Refusal::NO_START));
+    };
+    let newest = follow(image, c);
+    Opened::Newest(newest)
+}
+
+// The newest chunk of the image, or the refusal 2, 3 or 4.
+pub fn open(image: &[u8]) -> Opened
+    ensures { λ r. ⌜ r ≡ opened (now (image .entry)) ⌝ }
+{
+    if blocks_in(image) == 0 {
+        return Opened::Refused(Refusal::new(Refusal::IMAGE_SIZE));
+    }
+    let copy = header_of(image);
+    if is_good(copy) {} else {
+        return Opened::Refused(Refusal::new(Refusal::NO_HEADER));
+    }
+    let by_header = header_start(image, copy);
+    let by_footer = footer_start(image);
+    newest_from(image, higher_start(by_header, by_footer))
+}
