@@ -1,0 +1,161 @@
+//! Questions about sums, hex digits, big-endian and variable-size numbers, and positions.
+
+use super::bytes_word;
+
+pub fn questions() -> Vec<String> {
+    [sums(), fills(), hexes(), big_endians(), variables(), positions(), bounds(), checks()].concat()
+}
+
+/// 01's examples (a), (b), (c); H2's own; and texts around the odd last byte.
+fn sums() -> Vec<String> {
+    let texts = [
+        "",
+        "c",
+        "ch",
+        "chu",
+        "Fletcher32",
+        "chunk:1,block:2,version:1",
+        "chunk:1,block:2,version:12",
+        "H:2,block:2,blockSize:1000,chunk:7,created:1441235ef73,format:1,version:7",
+    ];
+    let mut out: Vec<String> = texts.iter().map(|t| sum(t.as_bytes())).collect();
+    // Sums that come to 0 modulo 65535, before and after reduction.
+    let words: [&[u8]; 8] = [
+        &[0xff, 0xff],
+        &[0xff, 0xfe],
+        &[0x00, 0x01],
+        &[0x00, 0x01, 0xff, 0xfe],
+        &[0xff, 0xff, 0xff, 0xff],
+        &[0x80, 0x00, 0x7f, 0xff, 0x00],
+        &[0xff, 0xfe, 0x00, 0x01, 0x00, 0x01],
+        &[0x01, 0x00],
+    ];
+    out.extend(words.iter().map(|w| sum(w)));
+    out
+}
+
+fn sum(text: &[u8]) -> String {
+    format!("sum {}", bytes_word(text))
+}
+
+/// Long texts: H2's own ten thousand bytes of value 10, zeros, and runs around 360 words.
+fn fills() -> Vec<String> {
+    let mut out = vec!["fill a 2710".to_string()];
+    for byte in [0, 1, 0x61, 0x80, 0xfe, 0xff] {
+        for count in [0, 1, 2, 3, 0x2ce, 0x2d0, 0x2d1, 0x2d2, 0x5a0, 0xff8, 0x10000] {
+            out.push(format!("fill {byte:x} {count:x}"));
+        }
+    }
+    out
+}
+
+fn hexes() -> Vec<String> {
+    let texts = [
+        "", "0", "00", "01", "1", "9", "a", "f", "g", "A", "F", "10", "0x1", "/", ":", "`", "1 ",
+        " 1", "1,", "-1", "ff", "1000", "7fffffff", "80000000", "ffffffff", "100000000",
+        "ffffffffffff", "1000000000000", "4000004f8c", "7fffffffffffffff", "8000000000000000",
+        "ffffffffffffffff", "fffffffffffffffff", "10000000000000000", "0000000000000001",
+        "123456789abcdef0", "123456789abcdefg", "1\n",
+    ];
+    let mut out: Vec<String> =
+        texts.iter().map(|t| format!("hex {}", bytes_word(t.as_bytes()))).collect();
+    out.push("hex 80".to_string());
+    out.push("hex 3100".to_string());
+    for shift in (0..64).step_by(4) {
+        out.push(format!("digits {:x}", 1u64 << shift));
+        out.push(format!("digits {:x}", u64::MAX >> shift));
+    }
+    out.push("digits 0".to_string());
+    out
+}
+
+/// Each width at, before and past the end.
+fn big_endians() -> Vec<String> {
+    let bytes = bytes_word(&[0x80, 0x01, 0xfe, 0x7f, 0x00, 0xff, 0xc0, 0x33, 0x12]);
+    let mut out = Vec::new();
+    for width in [2, 4, 8] {
+        for at in [0u64, 1, 5, 7, 8, 9, 10, 0xffff_ffff] {
+            out.push(format!("be {width} {at:x} {bytes}"));
+        }
+        out.push(format!("be {width} 0 -"));
+        out.push(format!("be {width} 0 {}", "ff".repeat(width)));
+    }
+    out
+}
+
+/// 01's example (g), every power of two and one below under the four limits, and damaged forms.
+fn variables() -> Vec<String> {
+    let limits = [1u64 << 31, 1 << 48, 1025, 65536];
+    let mut out = vec!["var 80000000 0 8000".to_string(), "var 80000000 0 8001".to_string()];
+    for power in 0..=49 {
+        for value in [1u64 << power, (1 << power) - 1] {
+            // A limit far above the value says no more than the one below it.
+            for limit in limits.iter().filter(|&&l| value / 4 < l && (l / 1024 < value.max(256))) {
+                out.push(format!("var {limit:x} 0 {}", bytes_word(&variable(value))));
+            }
+        }
+    }
+    let damaged = [
+        "-", "80", "ff", "8080", "8100", "ff00", "808000", "8080808000", "8080808010",
+        "8080808008", "ffffffff07", "ffffffff08", "ffffffffffff3f", "ffffffffffff7f",
+        "ffffffffffffffffff01", "ffffffffffffffffff7f", "ffffffffffffffffffff01",
+        "80808080808080808001", "80808080808080808080808001", "00", "0001", "7f", "7f80",
+    ];
+    for form in damaged {
+        for limit in limits {
+            out.push(format!("var {limit:x} 0 {form}"));
+        }
+    }
+    for at in 0..6 {
+        out.push(format!("var 10000 {at:x} 05808002ff"));
+    }
+    out.extend(["var 0 0 00", "var 1 0 00", "var 1 0 01"].map(String::from));
+    out
+}
+
+/// A number in shortest form.
+fn variable(value: u64) -> Vec<u8> {
+    let mut bytes = Vec::new();
+    let mut rest = value;
+    while rest >= 0x80 {
+        bytes.push(rest as u8 | 0x80);
+        rest >>= 7;
+    }
+    bytes.push(rest as u8);
+    bytes
+}
+
+/// 01's example (d), each bit of a position alone, and fields at and past their widths.
+fn positions() -> Vec<String> {
+    let mut out = vec!["position 4000004f8c".to_string(), "position 0".to_string()];
+    out.extend((0..64).map(|bit| format!("position {:x}", 1u64 << bit)));
+    for number in [u64::MAX, 0x7fff_ffff_ffff_ffff, 0xffff_ffc0_0000_0000, 0x3f_ffff_ffc0, 0x3f] {
+        out.push(format!("position {number:x}"));
+    }
+    let fields: [[u64; 4]; 16] = [
+        [1, 318, 6, 0], [0, 0, 0, 0], [0x3ff_ffff, 0xffff_ffff, 31, 1], [0x400_0000, 0, 0, 0],
+        [0xffff_ffff, 0, 0, 0], [0x3ff_ffff, 0, 0, 0], [0, 0xffff_ffff, 0, 0], [0, 0, 31, 0],
+        [0, 0, 32, 0], [0, 0, 0xffff_ffff, 0], [0, 0, 0, 1], [0, 0, 0, 2], [0, 0, 0, 0xff],
+        [1, 1, 1, 1], [7, 0x8000_0000, 30, 0], [0x200_0000, 0x1_2345, 15, 1],
+    ];
+    for [chunk, offset, code, kind] in fields {
+        out.push(format!("make {chunk:x} {offset:x} {code:x} {kind:x}"));
+    }
+    out
+}
+
+/// Every length code, and numbers that are none.
+fn bounds() -> Vec<String> {
+    let codes = (0u64..=33).chain([0x3f, 0xff, 0xffff_ffff]);
+    codes.map(|code| format!("bound {code:x}")).collect()
+}
+
+/// 01's example (e), and numbers past 16 bits in each place.
+fn checks() -> Vec<String> {
+    let cases: [[u64; 3]; 10] = [
+        [1, 318, 200], [0, 0, 0], [1, 0x12345, 0xc8], [0x3ff_ffff, 0xffff_ffff, 0xffff_ffff],
+        [0x3ff_ffff, 0, 0], [0, 0xffff_ffff, 0], [0, 0, 0x10_0000], [0x1_0000, 0x1_0000, 9],
+        [2, 1024, 9], [0xabcdef, 0x1234_5678, 0x9abc],
+    ];
+    cases.iter().map(|[c, o, l]| format!("check {c:x} {o:x} {l:x}")).collect()
+}
