@@ -1,4 +1,7 @@
-//! What stands against the proved library: a plain model written from document 01 alone.
+//! What stands against the proved library: a plain model written from document 01 alone, and what
+//! it is held against.
 
+pub mod check;
 pub mod model;
+pub mod subject;
 pub mod vectors;

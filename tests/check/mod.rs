@@ -1,0 +1,4 @@
+//! What a run checks, each through the `Judge`.
+
+pub mod stores;
+pub mod sweep;
