@@ -1,7 +1,9 @@
 //! What stands against the proved library: a plain model written from document 01 alone, and what
 //! it is held against.
 
+pub mod build;
 pub mod check;
+pub mod family;
 pub mod model;
 pub mod subject;
 pub mod vectors;

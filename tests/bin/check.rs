@@ -3,7 +3,7 @@
 use std::path::Path;
 use std::process::ExitCode;
 
-use vihtumora_tests::check::stores;
+use vihtumora_tests::check::{family, stores};
 use vihtumora_tests::subject::Judge;
 
 fn main() -> ExitCode {
@@ -12,6 +12,7 @@ fn main() -> ExitCode {
     for name in stores::NAMES {
         stores::check(&mut judge, &here.join("stores"), name).expect("the stores can be read");
     }
+    family::check(&mut judge, &here.join("family/images.txt")).expect("the family can be read");
     let full = judge.tally.print_table();
     let tally = &judge.tally;
     println!(

@@ -20,7 +20,7 @@ impl Judge {
     /// The model's reply, after each subject's was held against it.
     pub fn ask(&mut self, image: &[u8], question: &Question) -> Reply {
         let reply = Reply::of_model(image, question);
-        self.tally.count(question.call(), &reply);
+        self.tally.count(question, &reply);
         for subject in &mut self.subjects {
             match subject.reply(image, question) {
                 Some(other) if other != reply => {

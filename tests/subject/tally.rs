@@ -1,7 +1,8 @@
 //! How often each refusal number was reached in each call.
 
-use super::{Answer, Call, Reply};
+use super::{Answer, Call, Question, Reply};
 use crate::model::refusal::LAST;
+use crate::model::walk::is_final;
 
 /// The columns of the table.
 const CALLS: [Call; 8] = [
@@ -24,9 +25,12 @@ pub struct Tally {
 }
 
 impl Tally {
-    pub fn count(&mut self, call: Call, reply: &Reply) {
+    /// An answer that a walk's state brought along and is given again was not reached here.
+    pub fn count(&mut self, question: &Question, reply: &Reply) {
         self.questions += 1;
-        if let (Some(column), Answer::Refused(refusal)) = (column(call), &reply.answer) {
+        let again = matches!(question, Question::Walk { state, .. } if is_final(state.last));
+        let column = column(question.call()).filter(|_| !again);
+        if let (Some(column), Answer::Refused(refusal)) = (column, &reply.answer) {
             self.refused[refusal.0 as usize][column] += 1;
         }
     }

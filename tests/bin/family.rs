@@ -1,0 +1,28 @@
+//! `family FILE` writes the family of damaged images; `family FILE --check` compares instead.
+//! Either way each hand-written claim is held against the model.
+
+use std::process::ExitCode;
+use std::{env, fs, io};
+
+use vihtumora_tests::family::{all, stored::text_of};
+
+fn main() -> io::Result<ExitCode> {
+    let arguments: Vec<String> = env::args().collect();
+    let file = arguments.get(1).expect("usage: family FILE [--check]");
+    let family = all();
+    let (text, differences) = text_of(&family);
+    for difference in &differences {
+        eprintln!("claimed {difference}");
+    }
+    let cases: usize = family.iter().map(|(_, cases)| cases.len()).sum();
+    println!("family: {} bases, {cases} cases, {} bytes", family.len(), text.len());
+    let same = match arguments.get(2) {
+        Some(_) => fs::read_to_string(file)? == text,
+        None => fs::write(file, &text).map(|()| true)?,
+    };
+    if !same {
+        eprintln!("{file} is not what the cases make: run `tests/run --family`");
+    }
+    let good = differences.is_empty() && same;
+    Ok(if good { ExitCode::SUCCESS } else { ExitCode::FAILURE })
+}

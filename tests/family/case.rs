@@ -1,0 +1,45 @@
+//! A case of the family and the base it changes.
+
+use super::standard::{standard, Standard};
+use crate::subject::Question;
+
+/// A good image, and the questions that are asked of it and of each of its cases.
+pub struct Base {
+    pub name: &'static str,
+    pub why: &'static str,
+    pub image: Vec<u8>,
+    pub questions: Vec<Question>,
+}
+
+/// An image with one fault (or one thing a reader could stumble over), and what 01 says of it.
+pub struct Case {
+    pub name: &'static str,
+    pub why: &'static str,
+    pub image: Vec<u8>,
+    pub claims: Vec<(Question, String)>,
+}
+
+impl Case {
+    pub fn new(name: &'static str, why: &'static str, image: Vec<u8>) -> Case {
+        Case { name, why, image, claims: Vec::new() }
+    }
+
+    /// The standard store after a change.
+    pub fn standard(name: &'static str, why: &'static str, edit: impl FnOnce(&mut Standard)) -> Case {
+        let mut store = standard();
+        edit(&mut store);
+        Case::new(name, why, store.plan.image())
+    }
+
+    /// Claims an answer.
+    pub fn says(mut self, question: Question, answer: &str) -> Case {
+        self.claims.push((question, answer.to_string()));
+        self
+    }
+
+    /// Claims that each of the questions is refused with a number.
+    pub fn refuses(mut self, questions: Vec<Question>, number: u8) -> Case {
+        self.claims.extend(questions.into_iter().map(|q| (q, format!("refused {number}"))));
+        self
+    }
+}

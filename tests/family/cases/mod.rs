@@ -1,0 +1,37 @@
+//! The cases, by 01's sections.
+
+mod asking;
+mod examining;
+mod headers;
+mod locating;
+mod opening;
+mod order;
+mod pages;
+mod place;
+mod readers;
+mod standing;
+mod walking;
+
+use super::base;
+use super::case::{Base, Case};
+
+pub fn all() -> Vec<(Base, Vec<Case>)> {
+    let standard = [
+        pages::cases(),
+        asking::cases(),
+        walking::cases(),
+        examining::cases(),
+        locating::cases(),
+        order::cases(),
+        readers::cases(),
+    ];
+    vec![
+        (base::standard_base(), standard.into_iter().flatten().collect()),
+        (base::tiny_base(), place::cases()),
+        (base::single_base(), headers::cases()),
+        (base::lone_base(), standing::cases()),
+        (base::forked_base(), opening::cases()),
+        (base::nested_base(), locating::nested_cases()),
+        (base::deep_base(), order::deep_cases()),
+    ]
+}

@@ -1,0 +1,64 @@
+//! The least store: three blocks, one chunk, `forces` as one leaf, and the metadata as another.
+
+use crate::build::page::{smallest_code, variable};
+use crate::build::plan::{PageRef, Plan};
+use crate::build::tree::MapPlan;
+
+use super::standard::{numbered, METADATA_PLAN};
+use crate::build::page::measured;
+
+pub struct Tiny {
+    pub plan: Plan,
+    /// Keys 3 and 4, 24 bytes each, at the first place after the chunk header's newline.
+    pub leaf: PageRef,
+    pub metadata: PageRef,
+    /// What `root.1` says, where it is not the leaf's position.
+    pub root: Option<u64>,
+}
+
+/// With the chunk header's newline at that place, and so many blocks for the chunk.
+pub fn tiny_with(newline: u64, len: u64) -> Tiny {
+    let mut plan = Plan::new();
+    plan.newline = newline;
+    plan.add_chunk(1, len, 1);
+    plan.name_chunk(0);
+    let leaf = MapPlan { id: 1, kind: 0 }.leaf(&mut plan, 0, &numbered(&[3, 4])).page;
+    // Room for a leaf that grows.
+    plan.chunks[0].slack = 1024;
+    let entries = [
+        (b"name.forces".to_vec(), b"1".to_vec()),
+        (b"root.1".to_vec(), vec![b'f'; 16]),
+    ];
+    plan.put(0, crate::build::page::PagePlan::leaf(9, 0, &[]));
+    let metadata = METADATA_PLAN.leaf(&mut plan, 0, &entries).page;
+    Tiny { plan, leaf, metadata, root: None }
+}
+
+pub fn tiny() -> Tiny {
+    tiny_with(159, 1)
+}
+
+impl Tiny {
+    pub fn leaf(&mut self) -> &mut crate::build::page::PagePlan {
+        self.plan.page(self.leaf)
+    }
+
+    /// Sets the leaf's last value so that the leaf takes so many bytes, and its smallest code.
+    pub fn set_leaf_length(&mut self, length: u64) {
+        let leaf = self.plan.page(self.leaf);
+        let room = length - (leaf.true_length() - leaf.values[1].len() as u64);
+        let body = (0..room).rev().find(|&b| b + variable(b).len() as u64 == room);
+        let body = body.expect("a value of that many bytes with its length");
+        leaf.values[1] = measured(&vec![b'v'; body as usize]);
+        leaf.code = smallest_code(length);
+    }
+
+    /// The image, with `root.1` and the chunk's root saying where the pages are.
+    pub fn image(mut self) -> Vec<u8> {
+        let root = self.root.unwrap_or(self.plan.position(self.leaf));
+        self.plan.page(self.metadata).values[1] = measured(format!("{root:x}").as_bytes());
+        let metadata = self.plan.position(self.metadata);
+        self.plan.chunks[0].header.set("root", metadata);
+        self.plan.image()
+    }
+}
