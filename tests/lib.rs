@@ -5,5 +5,6 @@ pub mod build;
 pub mod check;
 pub mod family;
 pub mod model;
+pub mod random;
 pub mod subject;
 pub mod vectors;

@@ -1,23 +1,81 @@
-//! The short run.
+//! `check` is the short run; `check --long SEED IMAGES` the long one, on that many random images;
+//! `check --store FILE DUMP` reads one more store that H2 wrote.
 
 use std::path::Path;
 use std::process::ExitCode;
+use std::time::Instant;
+use std::{env, io};
 
-use vihtumora_tests::check::{family, stores};
+use vihtumora_tests::check::properties::{self, Maps};
+use vihtumora_tests::check::{codes, family, sparse, stores};
 use vihtumora_tests::subject::Judge;
 
-fn main() -> ExitCode {
-    let here = Path::new(env!("CARGO_MANIFEST_DIR"));
+/// The random images of the short run.
+const SEED: u64 = 1;
+const IMAGES: u64 = 2000;
+/// Progress is shown after so many images of a long run.
+const STEP: u64 = 1000;
+
+fn main() -> io::Result<ExitCode> {
+    let words: Vec<String> = env::args().skip(1).collect();
+    let words: Vec<&str> = words.iter().map(String::as_str).collect();
     let mut judge = Judge::default();
-    for name in stores::NAMES {
-        stores::check(&mut judge, &here.join("stores"), name).expect("the stores can be read");
-    }
-    family::check(&mut judge, &here.join("family/images.txt")).expect("the family can be read");
-    let full = judge.tally.print_table();
+    let good = match words[..] {
+        [] => short_run(&mut judge)?,
+        ["--long", seed, images] => long_run(&mut judge, number(seed), number(images)),
+        ["--store", file, dump] => {
+            stores::check(&mut judge, Path::new(file), Path::new(dump)).map(|()| true)?
+        }
+        _ => panic!("usage: check [--long SEED IMAGES | --store FILE DUMP]"),
+    };
     let tally = &judge.tally;
     println!(
         "tests: {} images, {} questions, {} disagreements",
         tally.images, tally.questions, tally.disagreements
     );
-    if full && tally.disagreements == 0 { ExitCode::SUCCESS } else { ExitCode::FAILURE }
+    let good = good && tally.disagreements == 0;
+    Ok(if good { ExitCode::SUCCESS } else { ExitCode::FAILURE })
+}
+
+/// The real stores, the stored family and some random images; each refusal must be reached in each
+/// call where it can occur.
+fn short_run(judge: &mut Judge) -> io::Result<bool> {
+    let here = Path::new(env!("CARGO_MANIFEST_DIR"));
+    for name in stores::NAMES {
+        let [file, dump] = ["base.mv", "dump"].map(|end| here.join(format!("stores/{name}.{end}")));
+        stores::check(judge, &file, &dump)?;
+    }
+    family::check(judge, &here.join("family/images.txt"))?;
+    codes::check(judge);
+    sparse::check(judge)?;
+    let mut maps = Maps::default();
+    for number in 0..IMAGES {
+        properties::check(judge, &mut maps, SEED, number);
+    }
+    print_maps(&maps);
+    Ok(judge.tally.print_table())
+}
+
+fn long_run(judge: &mut Judge, seed: u64, images: u64) -> bool {
+    let mut maps = Maps::default();
+    let start = Instant::now();
+    for number in 0..images {
+        properties::check(judge, &mut maps, seed, number);
+        if (number + 1) % STEP == 0 || number + 1 == images {
+            let rate = (number + 1) as f64 / start.elapsed().as_secs_f64();
+            println!("{} of {images} images, {rate:.0} images per second", number + 1);
+        }
+    }
+    print_maps(&maps);
+    judge.tally.print_table();
+    true
+}
+
+fn number(word: &str) -> u64 {
+    word.parse().expect("a number in decimal")
+}
+
+fn print_maps(maps: &Maps) {
+    let Maps { sound, unsound, not_found } = maps;
+    println!("maps of random images: {sound} sound, {unsound} not sound, {not_found} not found");
 }

@@ -14,5 +14,4 @@ pub mod chunk;
 pub mod line;
 pub mod page;
 pub mod plan;
-pub mod random;
 pub mod tree;

@@ -5,12 +5,15 @@ use super::plan::{PageRef, Plan};
 
 pub type Entries = Vec<(Vec<u8>, Vec<u8>)>;
 
-/// A page that is put, the entries under it, and its first key.
+/// A page that is put, the levels from it down to the lowest leaf, the entries under it, and its
+/// first and last key.
 #[derive(Clone, Debug)]
 pub struct Placed {
     pub page: PageRef,
+    pub levels: u64,
     pub count: u64,
     pub first: Vec<u8>,
+    pub last: Vec<u8>,
 }
 
 /// A map under construction: its id and kind.
@@ -24,8 +27,9 @@ impl MapPlan {
     /// Puts a leaf.
     pub fn leaf(&self, plan: &mut Plan, chunk: usize, entries: &[(Vec<u8>, Vec<u8>)]) -> Placed {
         let page = plan.put(chunk, PagePlan::leaf(self.id, self.kind, entries));
-        let first = entries.first().map(|(key, _)| key.clone()).unwrap_or_default();
-        Placed { page, count: entries.len() as u64, first }
+        let key = |entry: Option<&(Vec<u8>, Vec<u8>)>| entry.map(|e| e.0.clone()).unwrap_or_default();
+        let (first, last) = (key(entries.first()), key(entries.last()));
+        Placed { page, levels: 1, count: entries.len() as u64, first, last }
     }
 
     /// Puts an inner page over children; a separator is the first key to its right.
@@ -44,7 +48,9 @@ impl MapPlan {
         let positions: Vec<_> = children.iter().map(|c| (plan.position(c.page), c.count)).collect();
         let page = plan.put(chunk, PagePlan::inner(self.id, self.kind, &positions, separators));
         let count = children.iter().map(|child| child.count).sum();
-        Placed { page, count, first: children[0].first.clone() }
+        let last = children[children.len() - 1].last.clone();
+        let levels = 1 + children.iter().map(|child| child.levels).max().unwrap_or(0);
+        Placed { page, levels, count, first: children[0].first.clone(), last }
     }
 }
 

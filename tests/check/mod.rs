@@ -1,5 +1,10 @@
 //! What a run checks, each through the `Judge`.
 
+pub mod codes;
 pub mod family;
+mod mapped;
+pub mod properties;
+pub mod sparse;
 pub mod stores;
+mod stray;
 pub mod sweep;

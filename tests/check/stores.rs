@@ -19,15 +19,16 @@ struct Dumped {
     entries: Vec<(Vec<u8>, Vec<u8>)>,
 }
 
-/// One store: `NAME.base.mv` against `NAME.dump`.
-pub fn check(judge: &mut Judge, directory: &Path, name: &str) -> io::Result<()> {
-    let image = fs::read(directory.join(format!("{name}.base.mv")))?;
-    let dump = fs::read_to_string(directory.join(format!("{name}.dump")))?;
+/// One store against its dump.
+pub fn check(judge: &mut Judge, file: &Path, dump: &Path) -> io::Result<()> {
+    let image = fs::read(file)?;
+    let dump = fs::read_to_string(dump)?;
+    let name = file.display().to_string();
     judge.tally.images += 1;
     let maps = dumped(&dump);
     judge.claim(!maps.is_empty(), || format!("{name}: the dump can't be read"));
     for map in &maps {
-        check_map(judge, &image, map, name);
+        check_map(judge, &image, map, &name);
     }
     judge.ask(&image, &Question::List);
     Ok(())

@@ -1,0 +1,65 @@
+//! Questions that need not make sense of an image: any key, any index, any area, any state.
+
+use crate::build::tree::Entries;
+use crate::model::walk::{State, DONE, FRESH, PLACES};
+use crate::random::{entries, Random};
+use crate::subject::{MapArgs, Question};
+
+/// A dozen questions about a map that was built with these entries.
+pub fn questions(random: &mut Random, map: MapArgs, built: &Entries) -> Vec<Question> {
+    let mut all = vec![Question::Count { map }];
+    for _ in 0..3 {
+        let key = some_key(random, map.kind, built);
+        all.push(Question::Lookup { map, key: key.clone() });
+        all.push(Question::Copy { map, key, area: random.below(40) as usize });
+        all.push(Question::Index { map, at: some_index(random, built) });
+        all.push(Question::Walk { map, state: some_state(random) });
+    }
+    if random.once_in(4) {
+        let strange = strange_map(random, map);
+        all.push(Question::Count { map: strange });
+        all.push(Question::Examine { map: strange });
+    }
+    all
+}
+
+fn some_key(random: &mut Random, kind: u64, built: &Entries) -> Vec<u8> {
+    match random.below(8) {
+        0 => entries::key(random, 1 - kind),
+        1..=3 => entries::key(random, kind),
+        _ if built.is_empty() => entries::key(random, kind),
+        _ => random.pick(built).0.clone(),
+    }
+}
+
+fn some_index(random: &mut Random, built: &Entries) -> u64 {
+    match random.below(8) {
+        0 => random.next(),
+        _ => random.below(built.len() as u64 + 2),
+    }
+}
+
+/// Small places and depths, and now and then anything at all.
+fn some_state(random: &mut Random) -> State {
+    let mut state = FRESH;
+    state.depth = random.below(5);
+    for place in 0..state.depth as usize {
+        state.places[place] = random.below(3);
+    }
+    match random.below(8) {
+        0 => state.depth = random.next() >> random.below(64),
+        1 => state.last = *random.pick(&[1, 12, 16, 17, 254, DONE, u64::MAX]),
+        2 => state.places[random.below(PLACES as u64) as usize] = random.next(),
+        _ => {}
+    }
+    state
+}
+
+/// The other kind, another id, or neither.
+fn strange_map(random: &mut Random, map: MapArgs) -> MapArgs {
+    match random.below(3) {
+        0 => MapArgs { kind: 1 - map.kind, ..map },
+        1 => MapArgs { id: random.next() >> random.below(64), ..map },
+        _ => MapArgs { kind: random.below(4), ..map },
+    }
+}
