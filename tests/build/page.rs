@@ -107,7 +107,8 @@ impl PagePlan {
 
     /// The page's position in a chunk of this id.
     pub fn position(&self, chunk: u64) -> u64 {
-        let position = Position { chunk, offset: self.offset, code: self.code, kind: self.type_bit };
+        let position =
+            Position { chunk, offset: self.offset, code: self.code, kind: self.type_bit };
         position.number().expect("a built page's position fits its widths")
     }
 }

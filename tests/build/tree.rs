@@ -27,7 +27,8 @@ impl MapPlan {
     /// Puts a leaf.
     pub fn leaf(&self, plan: &mut Plan, chunk: usize, entries: &[(Vec<u8>, Vec<u8>)]) -> Placed {
         let page = plan.put(chunk, PagePlan::leaf(self.id, self.kind, entries));
-        let key = |entry: Option<&(Vec<u8>, Vec<u8>)>| entry.map(|e| e.0.clone()).unwrap_or_default();
+        let key =
+            |entry: Option<&(Vec<u8>, Vec<u8>)>| entry.map(|e| e.0.clone()).unwrap_or_default();
         let (first, last) = (key(entries.first()), key(entries.last()));
         Placed { page, levels: 1, count: entries.len() as u64, first, last }
     }

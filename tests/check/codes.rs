@@ -7,17 +7,18 @@ use crate::family::questions::*;
 use crate::family::standard::METADATA_PLAN;
 use crate::model::image::BLOCK;
 use crate::model::page::LONGEST_VALUE;
-use crate::model::position::{bound, UNBOUNDED};
 use crate::subject::Judge;
 
 const FORCES_PLAN: MapPlan = MapPlan { id: 1, kind: 0 };
 
 pub fn check(judge: &mut Judge) {
-    for code in 0..UNBOUNDED {
-        let most = bound(code).expect("a code below 31 has a bound");
-        claim_length(judge, code, most, true);
-        claim_length(judge, code, most + 1, false);
-        claim_length(judge, UNBOUNDED, most + 1, true);
+    // "32, 48, 64, 96 and so on to 1,048,576 at code 30"
+    for half in 0..=15 {
+        for (code, most) in [(2 * half, 32 << half), (2 * half + 1, 48 << half)] {
+            let bounded = code < 31;
+            claim_length(judge, code, most, true);
+            claim_length(judge, code, most + 1, !bounded);
+        }
     }
 }
 

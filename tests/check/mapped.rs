@@ -7,7 +7,14 @@ use std::ops::{Deref, DerefMut};
 use std::slice;
 
 extern "C" {
-    fn mmap(at: *mut c_void, length: usize, access: i32, flags: i32, file: i32, from: i64) -> *mut c_void;
+    fn mmap(
+        at: *mut c_void,
+        length: usize,
+        access: i32,
+        flags: i32,
+        file: i32,
+        from: i64,
+    ) -> *mut c_void;
     fn munmap(at: *mut c_void, length: usize) -> i32;
 }
 

@@ -70,7 +70,13 @@ fn damaged_image(random: &mut Random, store: &RandomStore) -> (Vec<u8>, bool) {
 }
 
 /// The properties of one map; its entries if it is sound.
-fn check_map(judge: &mut Judge, maps: &mut Maps, image: &[u8], map: MapArgs, what: &str) -> Option<Entries> {
+fn check_map(
+    judge: &mut Judge,
+    maps: &mut Maps,
+    image: &[u8],
+    map: MapArgs,
+    what: &str,
+) -> Option<Entries> {
     let what = format!("{what}, map {}", map.id);
     let examined = judge.ask(image, &Question::Examine { map });
     let Ok((opened, found)) = ask::map(image, map.id, map.kind) else {

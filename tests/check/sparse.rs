@@ -47,7 +47,8 @@ fn far_chunks(judge: &mut Judge, named: bool) -> io::Result<()> {
         plan.chunks[i].header.set("next", BLOCKS[i + 1]);
     }
     plan.name_chunk(if named { newest } else { 0 });
-    let keys: Vec<Vec<i64>> = (0..BLOCKS.len() as i64).map(|i| vec![10 * i - 25, 10 * i - 20]).collect();
+    let keys: Vec<Vec<i64>> =
+        (0..BLOCKS.len() as i64).map(|i| vec![10 * i - 25, 10 * i - 20]).collect();
     let leaves: Vec<Placed> =
         (0..BLOCKS.len()).map(|i| FORCES_PLAN.leaf(&mut plan, i, &numbered(&keys[i]))).collect();
     let root = FORCES_PLAN.inner(&mut plan, newest, &leaves).page;

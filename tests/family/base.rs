@@ -21,7 +21,11 @@ fn questions() -> Vec<Question> {
     for map in [BLANK, BARE, METADATA, BEAMS] {
         all.extend([count_of(map), examine_of(map), index_in(map, 0), walk_in(map, &[])]);
     }
-    all.extend([lookup_text(METADATA, "chunk.1"), lookup_in(BEAMS, 50), walk_in(BEAMS, &[0, 1, 1])]);
+    all.extend([
+        lookup_text(METADATA, "chunk.1"),
+        lookup_in(BEAMS, 50),
+        walk_in(BEAMS, &[0, 1, 1]),
+    ]);
     all
 }
 

@@ -13,19 +13,19 @@ pub struct Base {
 
 /// An image with one fault (or one thing a reader could stumble over), and what 01 says of it.
 pub struct Case {
-    pub name: &'static str,
-    pub why: &'static str,
+    pub name: String,
+    pub why: String,
     pub image: Vec<u8>,
     pub claims: Vec<(Question, String)>,
 }
 
 impl Case {
-    pub fn new(name: &'static str, why: &'static str, image: Vec<u8>) -> Case {
-        Case { name, why, image, claims: Vec::new() }
+    pub fn new(name: &str, why: &str, image: Vec<u8>) -> Case {
+        Case { name: name.to_string(), why: why.to_string(), image, claims: Vec::new() }
     }
 
     /// The standard store after a change.
-    pub fn standard(name: &'static str, why: &'static str, edit: impl FnOnce(&mut Standard)) -> Case {
+    pub fn standard(name: &str, why: &str, edit: impl FnOnce(&mut Standard)) -> Case {
         let mut store = standard();
         edit(&mut store);
         Case::new(name, why, store.plan.image())

@@ -5,9 +5,10 @@
 //! where they differ from the base's.
 
 pub mod base;
-mod cases;
 pub mod case;
+mod cases;
 pub mod questions;
+mod seeded;
 pub mod standard;
 pub mod stored;
 pub mod tiny;

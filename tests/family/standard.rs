@@ -114,7 +114,8 @@ fn beams_map(plan: &mut Plan) -> (PageRef, Vec<Placed>, Vec<Placed>) {
 fn metadata_map(plan: &mut Plan, roots: &[(u64, Option<PageRef>)]) -> (PageRef, PageRef, PageRef) {
     let chunks: Entries = [OLD, MIDDLE].iter().map(|&chunk| chunk_entry(plan, chunk)).collect();
     let names = [("bare", "5"), ("beams", "6"), ("blank", "3"), ("forces", "1"), ("notes", "2")];
-    let name = |(name, id): &(&str, &str)| (format!("name.{name}").into_bytes(), id.as_bytes().to_vec());
+    let name =
+        |(name, id): &(&str, &str)| (format!("name.{name}").into_bytes(), id.as_bytes().to_vec());
     let mut rest: Entries = names.iter().chain(&[("zero", "4")]).map(name).collect();
     for (id, root) in roots {
         let position = root.map_or(0, |page| plan.position(page));

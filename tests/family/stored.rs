@@ -69,7 +69,9 @@ fn unmet_claims(case: &Case, replies: &[(String, String)]) -> Vec<String> {
     let meets = |claim: &str, reply: &str| claim == reply || Some(claim) == reply.split(';').next();
     let pairs = case.claims.iter().zip(replies);
     let unmet = pairs.filter(|((_, claim), (_, reply))| !meets(claim, reply));
-    unmet.map(|((q, claim), (_, reply))| format!("{}: {q}: {claim}, but {reply}", case.name)).collect()
+    unmet
+        .map(|((q, claim), (_, reply))| format!("{}: {q}: {claim}, but {reply}", case.name))
+        .collect()
 }
 
 fn ask_lines(pairs: &[(String, String)]) -> String {

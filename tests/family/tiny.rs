@@ -25,10 +25,7 @@ pub fn tiny_with(newline: u64, len: u64) -> Tiny {
     let leaf = MapPlan { id: 1, kind: 0 }.leaf(&mut plan, 0, &numbered(&[3, 4])).page;
     // Room for a leaf that grows.
     plan.chunks[0].slack = 1024;
-    let entries = [
-        (b"name.forces".to_vec(), b"1".to_vec()),
-        (b"root.1".to_vec(), vec![b'f'; 16]),
-    ];
+    let entries = [(b"name.forces".to_vec(), b"1".to_vec()), (b"root.1".to_vec(), vec![b'f'; 16])];
     plan.put(0, crate::build::page::PagePlan::leaf(9, 0, &[]));
     let metadata = METADATA_PLAN.leaf(&mut plan, 0, &entries).page;
     Tiny { plan, leaf, metadata, root: None }

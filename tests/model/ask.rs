@@ -8,7 +8,7 @@ use super::key::{well_formed, Key, Kind};
 use super::locate::{Store, QUESTIONS};
 use super::lookup;
 use super::map::{id_of, judge_map, judge_name, map_of, Map};
-use super::refusal::{Outcome, Refusal, ARGUMENT, AREA};
+use super::refusal::{Outcome, Refusal, AREA, ARGUMENT};
 use super::walk::{self, is_final, State, Step, DONE};
 
 /// Opening alone: the newest chunk.
@@ -62,7 +62,13 @@ pub fn count(image: &[u8], id: u64, kind: u64) -> Outcome<u64> {
 /// "Copy is a lookup that also writes the value." "A copy writes the value at the area's start and
 /// nothing after it. For an unknown key the answer is Absent, with no copy." A refusal leaves the
 /// area as it was.
-pub fn copy(image: &[u8], id: u64, kind: u64, key: &[u8], area: &mut [u8]) -> Outcome<Option<Span>> {
+pub fn copy(
+    image: &[u8],
+    id: u64,
+    kind: u64,
+    key: &[u8],
+    area: &mut [u8],
+) -> Outcome<Option<Span>> {
     let (kind, key) = judge_key(id, kind, key)?;
     let (store, map) = found(image, id, kind)?;
     let Some(value) = lookup::lookup(&store, &map, key, QUESTIONS)? else {

@@ -61,7 +61,13 @@ pub struct Child {
 /// "A page judges in this order: depth, child position 0, location, place, check, then the fields
 /// in file order." The page at `number` as a page of `map` at `depth`, with `left` questions left.
 /// A root of 0 is the empty map and never comes here.
-pub fn read<'a>(store: &Store<'a>, map: &Map, number: u64, depth: u64, left: u32) -> Outcome<Page<'a>> {
+pub fn read<'a>(
+    store: &Store<'a>,
+    map: &Map,
+    number: u64,
+    depth: u64,
+    left: u32,
+) -> Outcome<Page<'a>> {
     if depth > DEEPEST {
         return Err(TOO_DEEP);
     }

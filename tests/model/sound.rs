@@ -44,7 +44,8 @@ fn separators_part_the_keys(reached: &Reached, page: &Page, children: &[Spot]) -
     page.keys.iter().enumerate().all(|(i, separator)| {
         let (left, right) = children.split_at(i + 1);
         let above_left = left.iter().flat_map(|c| reached.keys(*c)).all(|k| separator.key > k);
-        let not_above_right = right.iter().flat_map(|c| reached.keys(*c)).all(|k| separator.key <= k);
+        let not_above_right =
+            right.iter().flat_map(|c| reached.keys(*c)).all(|k| separator.key <= k);
         above_left && not_above_right
     })
 }

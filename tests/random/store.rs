@@ -81,7 +81,14 @@ fn add_map(random: &mut Random, plan: &mut Plan, i: u64, newest: usize) -> (Rand
 }
 
 /// In all chunks of the shape, or in the newest alone; none if neither has room.
-fn place(random: &mut Random, plan: &mut Plan, map: MapPlan, shape: &mut Shape, list: &Entries, newest: usize) -> Option<(u64, u64)> {
+fn place(
+    random: &mut Random,
+    plan: &mut Plan,
+    map: MapPlan,
+    shape: &mut Shape,
+    list: &Entries,
+    newest: usize,
+) -> Option<(u64, u64)> {
     if list.is_empty() && random.once_in(2) {
         return None;
     }

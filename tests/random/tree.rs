@@ -21,7 +21,13 @@ pub struct Shape {
 }
 
 /// The root of a map of these entries; none if the chunks have no room for it.
-pub fn tree(random: &mut Random, plan: &mut Plan, map: MapPlan, shape: &Shape, entries: &Entries) -> Option<Placed> {
+pub fn tree(
+    random: &mut Random,
+    plan: &mut Plan,
+    map: MapPlan,
+    shape: &Shape,
+    entries: &Entries,
+) -> Option<Placed> {
     let mut level: Vec<Placed> = Vec::new();
     for group in leaf_groups(random, shape, entries) {
         let chunk = room(random, plan, shape, &PagePlan::leaf(map.id, map.kind, &group))?;
@@ -59,7 +65,13 @@ fn leaf_groups(random: &mut Random, shape: &Shape, entries: &Entries) -> Vec<Ent
 }
 
 /// A level of inner pages over a level; at least two children once, so that levels end.
-fn next_level(random: &mut Random, plan: &mut Plan, map: MapPlan, shape: &Shape, level: Vec<Placed>) -> Option<Vec<Placed>> {
+fn next_level(
+    random: &mut Random,
+    plan: &mut Plan,
+    map: MapPlan,
+    shape: &Shape,
+    level: Vec<Placed>,
+) -> Option<Vec<Placed>> {
     let mut above = Vec::new();
     let mut rest = level.into_iter().peekable();
     while rest.peek().is_some() {
@@ -71,9 +83,16 @@ fn next_level(random: &mut Random, plan: &mut Plan, map: MapPlan, shape: &Shape,
     Some(above)
 }
 
-fn inner(random: &mut Random, plan: &mut Plan, map: MapPlan, shape: &Shape, children: Vec<Placed>) -> Option<Placed> {
+fn inner(
+    random: &mut Random,
+    plan: &mut Plan,
+    map: MapPlan,
+    shape: &Shape,
+    children: Vec<Placed>,
+) -> Option<Placed> {
     let pairs = children.windows(2);
-    let separators: Vec<_> = pairs.map(|p| separator(random, map.kind, &p[0].last, &p[1].first)).collect();
+    let separators: Vec<_> =
+        pairs.map(|p| separator(random, map.kind, &p[0].last, &p[1].first)).collect();
     let zeros = vec![(0, 0); children.len()];
     let sized = PagePlan::inner(map.id, map.kind, &zeros, &separators);
     let chunk = room(random, plan, shape, &sized)?;

@@ -11,7 +11,16 @@ use crate::model::position::{bound, check_value, Position};
 
 /// The names whose values `fields` answers, in this order.
 const NAMES: [&str; 11] = [
-    "H", "blockSize", "format", "block", "chunk", "version", "len", "next", "pages", "root",
+    "H",
+    "blockSize",
+    "format",
+    "block",
+    "chunk",
+    "version",
+    "len",
+    "next",
+    "pages",
+    "root",
     "fletcher",
 ];
 

@@ -14,17 +14,19 @@ fn number_keys() -> Vec<String> {
     out
 }
 
-/// Lengths 0, 127, 128, 1,024 and 1,025, bytes at and past both ends of 32 to 126, and keys cut off.
+/// Bytes at and past both ends of 32 to 126, lengths badly written, and keys cut off.
+#[rustfmt::skip]
+const SHORT_TEXT_KEYS: [&str; 23] = [
+    "key 1 0 00", "key 1 0 -", "key 1 0 0161", "key 1 0 0120", "key 1 0 011f", "key 1 0 017e",
+    "key 1 0 017f", "key 1 0 0180", "key 1 0 0100", "key 1 0 010a", "key 1 0 0261",
+    "key 1 0 026162", "key 1 0 02617f", "key 1 0 027f61", "key 1 1 000161", "key 1 2 000161",
+    "key 1 3 000161", "key 1 4 000161", "key 1 0 8000", "key 1 0 810061", "key 1 0 80",
+    "key 1 0 8108", "key 1 0 03616263ff",
+];
+
+/// Those, and lengths 127, 128, 1,024 and 1,025, whole and a byte short.
 fn text_keys() -> Vec<String> {
-    let mut out: Vec<String> = [
-        "key 1 0 00", "key 1 0 -", "key 1 0 0161", "key 1 0 0120", "key 1 0 011f", "key 1 0 017e",
-        "key 1 0 017f", "key 1 0 0180", "key 1 0 0100", "key 1 0 010a", "key 1 0 0261",
-        "key 1 0 026162", "key 1 0 02617f", "key 1 0 027f61", "key 1 1 000161", "key 1 2 000161",
-        "key 1 3 000161", "key 1 4 000161", "key 1 0 8000", "key 1 0 810061", "key 1 0 80",
-        "key 1 0 8108", "key 1 0 03616263ff",
-    ]
-    .map(String::from)
-    .into();
+    let mut out: Vec<String> = SHORT_TEXT_KEYS.map(String::from).into();
     for length in [127usize, 128, 1024, 1025] {
         let prefix = if length < 128 {
             vec![length as u8]
@@ -38,16 +40,17 @@ fn text_keys() -> Vec<String> {
     out
 }
 
+#[rustfmt::skip]
+const SHORT_KEYS: [&str; 16] = [
+    "wellformed 0 -", "wellformed 0 00", "wellformed 0 ffffffffffffff",
+    "wellformed 0 ffffffffffffffff", "wellformed 0 8000000000000000",
+    "wellformed 0 000000000000000000", "wellformed 1 -", "wellformed 1 1f", "wellformed 1 20",
+    "wellformed 1 7e", "wellformed 1 7f", "wellformed 1 80", "wellformed 1 00",
+    "wellformed 1 0a", "wellformed 1 61620a", "wellformed 1 616200",
+];
+
 fn well_formed() -> Vec<String> {
-    let mut out: Vec<String> = [
-        "wellformed 0 -", "wellformed 0 00", "wellformed 0 ffffffffffffff",
-        "wellformed 0 ffffffffffffffff", "wellformed 0 8000000000000000",
-        "wellformed 0 000000000000000000", "wellformed 1 -", "wellformed 1 1f", "wellformed 1 20",
-        "wellformed 1 7e", "wellformed 1 7f", "wellformed 1 80", "wellformed 1 00",
-        "wellformed 1 0a", "wellformed 1 61620a", "wellformed 1 616200",
-    ]
-    .map(String::from)
-    .into();
+    let mut out: Vec<String> = SHORT_KEYS.map(String::from).into();
     for length in [1024, 1025] {
         out.push(format!("wellformed 1 {}", "6b".repeat(length)));
     }

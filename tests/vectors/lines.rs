@@ -17,8 +17,25 @@ pub fn questions() -> Vec<String> {
 /// Where a line ends: no newline, trailing spaces, several newlines, an area full of spaces.
 fn areas() -> Vec<String> {
     let texts = [
-        "", "\n", " \n", "  \n", "a", "a\n", "a \n", " a\n", "a b\n", "a\n\n", "a \nb \n", "a\t\n",
-        "a\r\n", "   ", "a   ", "a,  \n", "\n\n", "a\0 \n", "block:2\n\0\0\0",
+        "",
+        "\n",
+        " \n",
+        "  \n",
+        "a",
+        "a\n",
+        "a \n",
+        " a\n",
+        "a b\n",
+        "a\n\n",
+        "a \nb \n",
+        "a\t\n",
+        "a\r\n",
+        "   ",
+        "a   ",
+        "a,  \n",
+        "\n\n",
+        "a\0 \n",
+        "block:2\n\0\0\0",
         "block:2   \n\0\0\0block:3\n",
     ];
     let mut out: Vec<String> = texts.iter().map(|t| question("line", t.as_bytes())).collect();
@@ -38,29 +55,33 @@ fn fields() -> Vec<String> {
     out
 }
 
+#[rustfmt::skip]
+const GOOD_TEXTS: [&str; 14] = [
+    "H:2", "block:0", "block:2,chunk:1", "chunk:1,block:2", "Block:2,block:3",
+    "blocksize:1,blockSize:1000", "abcdefghijklmnop:1", "ABCDEFGHIJKLMNOP:f,len:1",
+    "root:ffffffffffffffff", "version:123456789abcdef", "fletcher:1,version:2",
+    "x:1,y:2,z:0", "blocks:1,bloc:2,b:3", "H:2,blockSize:1000,format:1",
+];
+
 fn good_texts() -> Vec<Vec<u8>> {
-    let texts = [
-        "H:2", "block:0", "block:2,chunk:1", "chunk:1,block:2", "Block:2,block:3",
-        "blocksize:1,blockSize:1000", "abcdefghijklmnop:1", "ABCDEFGHIJKLMNOP:f,len:1",
-        "root:ffffffffffffffff", "version:123456789abcdef", "fletcher:1,version:2",
-        "x:1,y:2,z:0", "blocks:1,bloc:2,b:3", "H:2,blockSize:1000,format:1",
-    ];
-    texts.map(|t| t.as_bytes().to_vec()).into()
+    GOOD_TEXTS.map(|t| t.as_bytes().to_vec()).into()
 }
 
 /// One rule of a line broken in each.
+#[rustfmt::skip]
+const BAD_TEXTS: [&str; 48] = [
+    "", ",", "block:02", "block:00", "block:", "block", ":2", ":", "block:2,", ",block:2",
+    "block:2,,chunk:1", "block:2,chunk", "block:2,chunk:", "block:2,:1", "block:2,block:2",
+    "block:2,block:3", "x:1,x:1", "x:1,block:2,x:2", "abcdefghijklmnopq:1",
+    "root:fffffffffffffffff", "root:10000000000000000", "root:0000000000000001", "block:A",
+    "block:g", "block:2 ", " block:2", "block: 2", "block :2", "block:2, chunk:1",
+    "block:2 ,chunk:1", "block:-2", "block:0x2", "block:2:3", "block::2", "block:\"2\"",
+    "bl0ck:2", "bl_ck:2", "bl.ck:2", "@:1", "[:1", "`:1", "{:1", "block:2\n", "block:2\0",
+    "block:2;chunk:1", "block:/", "block:`", "block:G",
+];
+
 fn bad_texts() -> Vec<Vec<u8>> {
-    let texts = [
-        "", ",", "block:02", "block:00", "block:", "block", ":2", ":", "block:2,", ",block:2",
-        "block:2,,chunk:1", "block:2,chunk", "block:2,chunk:", "block:2,:1", "block:2,block:2",
-        "block:2,block:3", "x:1,x:1", "x:1,block:2,x:2", "abcdefghijklmnopq:1",
-        "root:fffffffffffffffff", "root:10000000000000000", "root:0000000000000001", "block:A",
-        "block:g", "block:2 ", " block:2", "block: 2", "block :2", "block:2, chunk:1",
-        "block:2 ,chunk:1", "block:-2", "block:0x2", "block:2:3", "block::2", "block:\"2\"",
-        "bl0ck:2", "bl_ck:2", "bl.ck:2", "@:1", "[:1", "`:1", "{:1", "block:2\n", "block:2\0",
-        "block:2;chunk:1", "block:/", "block:`", "block:G",
-    ];
-    let mut out: Vec<Vec<u8>> = texts.map(|t| t.as_bytes().to_vec()).into();
+    let mut out: Vec<Vec<u8>> = BAD_TEXTS.map(|t| t.as_bytes().to_vec()).into();
     out.push(b"bl\xc3\xb6ck:2".to_vec());
     out.push(vec![0xff]);
     out

@@ -12,7 +12,8 @@
 //! | `var LIMIT AT BYTES` | `VALUE NEXT` or `bad` |
 //! | `position NUMBER`, `make CHUNK OFFSET CODE TYPE` | taken apart; the position or `bad` |
 //! | `bound CODE`, `check CHUNK OFFSET LENGTH` | most bytes or `none`; the check value |
-//! | `line AREA`, `fields TEXT`, `right TEXT` | `LENGTH NEWLINE` or `none`; values or `bad`; `yes` or `no` |
+//! | `line AREA` | `LENGTH NEWLINE` or `none` |
+//! | `fields TEXT`, `right TEXT` | values or `bad`; `yes` or `no` |
 //! | `key KIND AT BYTES` | `AT LENGTH NEXT` or `bad` |
 //! | `wellformed KIND KEY`, `compare KIND A B` | `yes` or `no`; `less`, `equal` or `greater` |
 

@@ -49,16 +49,19 @@ fn fills() -> Vec<String> {
     out
 }
 
+/// Good digits and digits that break the rule.
+#[rustfmt::skip]
+const DIGIT_TEXTS: [&str; 38] = [
+    "", "0", "00", "01", "1", "9", "a", "f", "g", "A", "F", "10", "0x1", "/", ":", "`", "1 ",
+    " 1", "1,", "-1", "ff", "1000", "7fffffff", "80000000", "ffffffff", "100000000",
+    "ffffffffffff", "1000000000000", "4000004f8c", "7fffffffffffffff", "8000000000000000",
+    "ffffffffffffffff", "fffffffffffffffff", "10000000000000000", "0000000000000001",
+    "123456789abcdef0", "123456789abcdefg", "1\n",
+];
+
 fn hexes() -> Vec<String> {
-    let texts = [
-        "", "0", "00", "01", "1", "9", "a", "f", "g", "A", "F", "10", "0x1", "/", ":", "`", "1 ",
-        " 1", "1,", "-1", "ff", "1000", "7fffffff", "80000000", "ffffffff", "100000000",
-        "ffffffffffff", "1000000000000", "4000004f8c", "7fffffffffffffff", "8000000000000000",
-        "ffffffffffffffff", "fffffffffffffffff", "10000000000000000", "0000000000000001",
-        "123456789abcdef0", "123456789abcdefg", "1\n",
-    ];
     let mut out: Vec<String> =
-        texts.iter().map(|t| format!("hex {}", bytes_word(t.as_bytes()))).collect();
+        DIGIT_TEXTS.iter().map(|t| format!("hex {}", bytes_word(t.as_bytes()))).collect();
     out.push("hex 80".to_string());
     out.push("hex 3100".to_string());
     for shift in (0..64).step_by(4) {
@@ -83,6 +86,15 @@ fn big_endians() -> Vec<String> {
     out
 }
 
+/// Not ended, not shortest, too large, and good ones among them.
+#[rustfmt::skip]
+const DAMAGED_FORMS: [&str; 23] = [
+    "-", "80", "ff", "8080", "8100", "ff00", "808000", "8080808000", "8080808010",
+    "8080808008", "ffffffff07", "ffffffff08", "ffffffffffff3f", "ffffffffffff7f",
+    "ffffffffffffffffff01", "ffffffffffffffffff7f", "ffffffffffffffffffff01",
+    "80808080808080808001", "80808080808080808080808001", "00", "0001", "7f", "7f80",
+];
+
 /// 01's example (g), every power of two and one below under the four limits, and damaged forms.
 fn variables() -> Vec<String> {
     let limits = [1u64 << 31, 1 << 48, 1025, 65536];
@@ -95,13 +107,7 @@ fn variables() -> Vec<String> {
             }
         }
     }
-    let damaged = [
-        "-", "80", "ff", "8080", "8100", "ff00", "808000", "8080808000", "8080808010",
-        "8080808008", "ffffffff07", "ffffffff08", "ffffffffffff3f", "ffffffffffff7f",
-        "ffffffffffffffffff01", "ffffffffffffffffff7f", "ffffffffffffffffffff01",
-        "80808080808080808001", "80808080808080808080808001", "00", "0001", "7f", "7f80",
-    ];
-    for form in damaged {
+    for form in DAMAGED_FORMS {
         for limit in limits {
             out.push(format!("var {limit:x} 0 {form}"));
         }
@@ -126,6 +132,7 @@ fn variable(value: u64) -> Vec<u8> {
 }
 
 /// 01's example (d), each bit of a position alone, and fields at and past their widths.
+#[rustfmt::skip]
 fn positions() -> Vec<String> {
     let mut out = vec!["position 4000004f8c".to_string(), "position 0".to_string()];
     out.extend((0..64).map(|bit| format!("position {:x}", 1u64 << bit)));
@@ -151,6 +158,7 @@ fn bounds() -> Vec<String> {
 }
 
 /// 01's example (e), and numbers past 16 bits in each place.
+#[rustfmt::skip]
 fn checks() -> Vec<String> {
     let cases: [[u64; 3]; 10] = [
         [1, 318, 200], [0, 0, 0], [1, 0x12345, 0xc8], [0x3ff_ffff, 0xffff_ffff, 0xffff_ffff],

@@ -36,7 +36,10 @@ fn arguments() -> Vec<Case> {
     case = case.refuses(vec![key(NOTES, &[31]), key(NOTES, &[b'k'; 1025]), key(NOTES, &[127])], 1);
     let copy = Question::Copy { map: NOTES, key: b"a\0".to_vec(), area: 4 };
     let last = MapArgs { id: (1 << 31) - 1, kind: 1 };
-    vec![case.refuses(vec![copy], 1).says(key(NOTES, &[b'k'; 1024]), "absent").says(count_of(last), "count 0")]
+    vec![case
+        .refuses(vec![copy], 1)
+        .says(key(NOTES, &[b'k'; 1024]), "absent")
+        .says(count_of(last), "count 0")]
 }
 
 /// "`name.X` gives map X's id in hex; an id is 1 to 2^31-1."
@@ -114,9 +117,13 @@ fn lookups() -> Vec<Case> {
             .says(lookup(0), "absent")
             .says(lookup(-1), &at("8403 24"))
             .says(examine(), "refused 12"),
-        Case::standard("separator-equal-goes-right", "an entry equal to a separator is to its right", |s| {
-            s.plan.page(s.forces).keys[0] = number_key(7);
-        })
+        Case::standard(
+            "separator-equal-goes-right",
+            "an entry equal to a separator is to its right",
+            |s| {
+                s.plan.page(s.forces).keys[0] = number_key(7);
+            },
+        )
         .says(lookup(7), &at("8470 0"))
         .says(lookup(0), "absent")
         .says(examine(), "refused 12"),

@@ -10,11 +10,11 @@ pub fn cases() -> Vec<Case> {
     [keys(), separators(), counts(), sound()].into_iter().flatten().collect()
 }
 
-fn unsound(name: &'static str, why: &'static str, edit: impl FnOnce(&mut Standard)) -> Case {
+fn unsound(name: &str, why: &str, edit: impl FnOnce(&mut Standard)) -> Case {
     Case::standard(name, why, edit).refuses(vec![examine()], 12)
 }
 
-fn unsound_beams(name: &'static str, why: &'static str, edit: impl FnOnce(&mut Standard)) -> Case {
+fn unsound_beams(name: &str, why: &str, edit: impl FnOnce(&mut Standard)) -> Case {
     Case::standard(name, why, edit).refuses(vec![examine_of(BEAMS)], 12)
 }
 

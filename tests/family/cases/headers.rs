@@ -20,14 +20,14 @@ impl<const N: usize> ConcatCases for [Vec<Case>; N] {
     }
 }
 
-fn edited(name: &'static str, why: &'static str, edit: impl FnOnce(&mut LinePlan)) -> Case {
+fn edited(name: &str, why: &str, edit: impl FnOnce(&mut LinePlan)) -> Case {
     let mut store = single();
     edit(&mut store.plan.headers[0]);
     Case::new(name, why, store.plan.image())
 }
 
 /// A header that is not good: refusal 3.
-fn refused(name: &'static str, why: &'static str, edit: impl FnOnce(&mut LinePlan)) -> Case {
+fn refused(name: &str, why: &str, edit: impl FnOnce(&mut LinePlan)) -> Case {
     edited(name, why, edit).refuses(vec![open()], 3)
 }
 

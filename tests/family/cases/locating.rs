@@ -10,7 +10,7 @@ pub fn cases() -> Vec<Case> {
 }
 
 /// Chunk 1 holds the leaf of keys 0 and 7: the questions that read it are refused.
-fn refused(name: &'static str, why: &'static str, edit: impl FnOnce(&mut Standard)) -> Case {
+fn refused(name: &str, why: &str, edit: impl FnOnce(&mut Standard)) -> Case {
     let case = Case::standard(name, why, edit).refuses(page_calls(7, 3, &[1, 0]), 5);
     case.says(count(), "count 6")
 }
@@ -121,7 +121,11 @@ pub fn nested_cases() -> Vec<Case> {
             .says(count(), "count 2"),
         Case::new("nine-questions-for-names", ninth, nested(9, true).image())
             .refuses(every_call(), 6),
-        Case::new("ninth-question-has-no-entry", "the ninth is refused unasked", eighth_missing.image())
-            .refuses(all, 6),
+        Case::new(
+            "ninth-question-has-no-entry",
+            "the ninth is refused unasked",
+            eighth_missing.image(),
+        )
+        .refuses(all, 6),
     ]
 }

@@ -14,6 +14,7 @@ mod walking;
 
 use super::base;
 use super::case::{Base, Case};
+use super::seeded;
 
 pub fn all() -> Vec<(Base, Vec<Case>)> {
     let standard = [
@@ -24,6 +25,7 @@ pub fn all() -> Vec<(Base, Vec<Case>)> {
         locating::cases(),
         order::cases(),
         readers::cases(),
+        seeded::cases(),
     ];
     vec![
         (base::standard_base(), standard.into_iter().flatten().collect()),

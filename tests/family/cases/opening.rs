@@ -13,10 +13,13 @@ const CHUNK_2: &str = "chunk 2 block 3 version 2";
 const CHUNK_3: &str = "chunk 3 block 5 version 3";
 
 pub fn cases() -> Vec<Case> {
-    [copies(), starts(), chains(), sizes()].into_iter().flatten().collect()
+    [copies(), unnamed_copies(), bad_copies(), starts(), last_footers(), chains(), sizes()]
+        .into_iter()
+        .flatten()
+        .collect()
 }
 
-fn edited(name: &'static str, why: &'static str, edit: impl FnOnce(&mut Standard)) -> Case {
+fn edited(name: &str, why: &str, edit: impl FnOnce(&mut Standard)) -> Case {
     let mut store = forked();
     edit(&mut store);
     Case::new(name, why, store.plan.image())
@@ -38,20 +41,9 @@ fn names(store: &mut Standard, first: usize, second: usize) {
 fn copies() -> Vec<Case> {
     let both = "both good: the larger version";
     let tie = "the first copy at a tie";
-    let lowest = "a copy without version counting lowest";
     vec![
         edited("second-copy-larger", both, |s| names(s, OLD, MIDDLE)).says(open(), CHUNK_2),
         edited("first-copy-larger", both, |s| names(s, MIDDLE, OLD)).says(open(), CHUNK_2),
-        edited("larger-copy-has-a-wrong-sum", "a copy is good", |s| {
-            names(s, OLD, MIDDLE);
-            s.plan.headers[1].sum = Sum::Xor(1);
-        })
-        .says(open(), CHUNK_1),
-        edited("first-copy-has-a-wrong-sum", "a copy is good", |s| {
-            names(s, MIDDLE, OLD);
-            s.plan.headers[0].sum = Sum::Xor(1);
-        })
-        .says(open(), CHUNK_1),
         edited("copies-tie", tie, |s| {
             names(s, OLD, MIDDLE);
             s.plan.headers[0].set("version", 2);
@@ -62,6 +54,12 @@ fn copies() -> Vec<Case> {
             s.plan.headers[0].set("version", u64::MAX);
         })
         .says(open(), CHUNK_1),
+    ]
+}
+
+fn unnamed_copies() -> Vec<Case> {
+    let lowest = "a copy without version counting lowest";
+    vec![
         edited("copy-without-version-before-version-0", lowest, |s| {
             unnamed(s, 0);
             s.plan.headers[1].set("version", 0);
@@ -77,14 +75,33 @@ fn copies() -> Vec<Case> {
             unnamed(s, 1);
         })
         .refuses(vec![open()], 4),
+    ]
+}
+
+fn bad_copies() -> Vec<Case> {
+    vec![
+        edited("larger-copy-has-a-wrong-sum", "a copy is good", |s| {
+            names(s, OLD, MIDDLE);
+            s.plan.headers[1].sum = Sum::Xor(1);
+        })
+        .says(open(), CHUNK_1),
+        edited("first-copy-has-a-wrong-sum", "a copy is good", |s| {
+            names(s, MIDDLE, OLD);
+            s.plan.headers[0].sum = Sum::Xor(1);
+        })
+        .says(open(), CHUNK_1),
         edited("no-good-copy", "no good file header", |s| {
             s.plan.headers = vec![blank_line(), blank_line()];
         })
         .refuses([every_call(), vec![open()]].concat(), 3),
-        edited("chosen-copy-names-nothing-standing", "the larger version is chosen, not tried", |s| {
-            names(s, OLD, MIDDLE);
-            s.plan.headers[1].set("block", 4);
-        })
+        edited(
+            "chosen-copy-names-nothing-standing",
+            "the larger version is chosen, not tried",
+            |s| {
+                names(s, OLD, MIDDLE);
+                s.plan.headers[1].set("block", 4);
+            },
+        )
         .refuses([every_call(), vec![open()]].concat(), 4),
     ]
 }
@@ -92,7 +109,6 @@ fn copies() -> Vec<Case> {
 /// "Two starts: ... The higher version is taken, the lower block at a tie."
 fn starts() -> Vec<Case> {
     let footer = "the block that the image's last 128 bytes name as a footer";
-    let ends = "if it ends where the image ends";
     let higher = "the higher version is taken";
     vec![
         edited("footer-start-alone", footer, |s| {
@@ -118,11 +134,26 @@ fn starts() -> Vec<Case> {
             names(s, MIDDLE, MIDDLE);
         })
         .says(open(), CHUNK_2),
+        edited("starts-tie-one-inside-the-other", "the lower block at a tie", |s| {
+            // The last footer is that of a chunk around the one that the header names.
+            set_version(s, NEWEST, 2);
+            names(s, NEWEST, NEWEST);
+            s.plan.chunks[MIDDLE].len = 4;
+            s.plan.chunks[MIDDLE].header.set("len", 4);
+        })
+        .says(open(), CHUNK_2),
         edited("header-names-nothing-footer-stands", "two starts", |s| {
             s.plan.blocks -= 1;
             s.plan.headers[0].set("chunk", 9);
         })
         .says(open(), CHUNK_3),
+    ]
+}
+
+/// "if it ends where the image ends"
+fn last_footers() -> Vec<Case> {
+    let ends = "if it ends where the image ends";
+    vec![
         footer_elsewhere("last-footer-of-an-earlier-chunk", ends, MIDDLE, |s| {
             unnamed(s, 0);
             unnamed(s, 1);
@@ -136,12 +167,7 @@ fn starts() -> Vec<Case> {
 }
 
 /// The footer of a chunk stands at the image's end too, where the chunk does not end.
-fn footer_elsewhere(
-    name: &'static str,
-    why: &'static str,
-    chunk: usize,
-    edit: impl FnOnce(&mut Standard),
-) -> Case {
+fn footer_elsewhere(name: &str, why: &str, chunk: usize, edit: impl FnOnce(&mut Standard)) -> Case {
     let mut store = forked();
     edit(&mut store);
     let mut image = store.plan.image();

@@ -11,7 +11,9 @@ use crate::model::walk::{State, FRESH};
 use crate::subject::{MapArgs, Question};
 
 pub fn cases() -> Vec<Case> {
-    [calls(), pages(), asking(), walks(), examinations()].into_iter().flatten().collect()
+    let pages = [positions(), places_and_checks(), fields()];
+    let calls = [calls(), asking(), walks(), examined_pages(), examined_children()];
+    pages.into_iter().chain(calls).flatten().collect()
 }
 
 const ILL_FORMED: State = State { depth: 17, ..FRESH };
@@ -60,20 +62,20 @@ fn calls() -> Vec<Case> {
 }
 
 /// A leaf of `forces` with two faults, or a position with two.
-fn leaf(name: &'static str, number: u8, edit: impl FnOnce(&mut PagePlan)) -> Case {
+fn leaf(name: &str, number: u8, edit: impl FnOnce(&mut PagePlan)) -> Case {
     let why = "depth, child position 0, location, place, check, then the fields in file order";
     let case = Case::standard(name, why, |s| edit(s.plan.page(s.leaves[1])));
     case.refuses(page_calls(7, 3, &[0, 1]), number)
 }
 
-fn child(name: &'static str, number: u8, position: Position) -> Case {
+fn child(name: &str, number: u8, position: Position) -> Case {
     let why = "depth, child position 0, location, place, check, then the fields in file order";
     let position = position.number().expect("the fields fit");
     let case = Case::standard(name, why, |s| s.plan.page(s.forces).children[1] = position);
     case.refuses(page_calls(7, 3, &[0, 1]), number)
 }
 
-fn pages() -> Vec<Case> {
+fn positions() -> Vec<Case> {
     let nowhere = Position { chunk: 99, offset: 0, code: 0, kind: 0 };
     vec![
         // Chunk 0 has no entry, so that its location would be 5.
@@ -81,6 +83,11 @@ fn pages() -> Vec<Case> {
         child("location-before-place", 5, nowhere),
         child("chunk-0-is-located", 5, Position { chunk: 0, offset: 1, ..nowhere }),
         child("place-before-check", 7, Position { chunk: 1, offset: 3000, code: 31, kind: 0 }),
+    ]
+}
+
+fn places_and_checks() -> Vec<Case> {
+    vec![
         leaf("length-before-check", 7, |p| {
             p.length = Some(8);
             p.check_xor = 1;
@@ -101,6 +108,11 @@ fn pages() -> Vec<Case> {
             p.check_xor = 1;
             p.type_byte = vec![1];
         }),
+    ]
+}
+
+fn fields() -> Vec<Case> {
+    vec![
         leaf("map-id-due-before-count", 9, |p| {
             p.map = vec![2];
             p.n = vec![0x82, 0];
@@ -182,14 +194,13 @@ fn walks() -> Vec<Case> {
 
 /// "depth first, a page's own rules before its keys, its separators before its children, a child
 /// before its recorded count; it refuses at the first fault"
-fn examinations() -> Vec<Case> {
-    let examined = |name, why, number: u8, edit: fn(&mut Standard)| {
-        Case::standard(name, why, edit).refuses(vec![examine()], number)
-    };
+fn examined(name: &str, why: &str, number: u8, edit: fn(&mut Standard)) -> Case {
+    Case::standard(name, why, edit).refuses(vec![examine()], number)
+}
+
+fn examined_pages() -> Vec<Case> {
     let own = "a page's own rules before its keys";
     let separators = "its separators before its children";
-    let count = "a child before its recorded count";
-    let first = "it refuses at the first fault";
     vec![
         examined("rules-before-keys", own, 10, |s| {
             s.plan.page(s.leaves[1]).keys.swap(0, 1);
@@ -203,6 +214,13 @@ fn examinations() -> Vec<Case> {
             s.plan.page(s.forces).keys.swap(0, 1);
             s.plan.page(s.leaves[0]).check_xor = 1;
         }),
+    ]
+}
+
+fn examined_children() -> Vec<Case> {
+    let count = "a child before its recorded count";
+    let first = "it refuses at the first fault";
+    vec![
         examined("child-before-its-count", count, 8, |s| {
             s.plan.page(s.forces).counts[0] = variable(3);
             s.plan.page(s.leaves[0]).check_xor = 1;

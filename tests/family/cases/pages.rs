@@ -11,20 +11,20 @@ pub fn cases() -> Vec<Case> {
 }
 
 /// A fault in the leaf of keys 0 and 7.
-fn leaf(name: &'static str, why: &'static str, number: u8, edit: impl FnOnce(&mut PagePlan)) -> Case {
+fn leaf(name: &str, why: &str, number: u8, edit: impl FnOnce(&mut PagePlan)) -> Case {
     let case = Case::standard(name, why, |s| edit(s.plan.page(s.leaves[1])));
     case.refuses(page_calls(7, 3, &[0, 1]), number).says(count(), "count 6")
 }
 
 /// A fault in the root of `forces`.
-fn root(name: &'static str, why: &'static str, number: u8, edit: impl FnOnce(&mut PagePlan)) -> Case {
+fn root(name: &str, why: &str, number: u8, edit: impl FnOnce(&mut PagePlan)) -> Case {
     let case = Case::standard(name, why, |s| edit(s.plan.page(s.forces)));
     let calls = [page_calls(7, 3, &[0, 1]), vec![count()]].concat();
     case.refuses(calls, number).says(find("forces"), "id 1")
 }
 
 /// A fault in the leaf of names and roots: every call meets it.
-fn metadata(name: &'static str, why: &'static str, number: u8, edit: impl FnOnce(&mut PagePlan)) -> Case {
+fn metadata(name: &str, why: &str, number: u8, edit: impl FnOnce(&mut PagePlan)) -> Case {
     Case::standard(name, why, |s| edit(s.plan.page(s.name_leaf))).refuses(every_call(), number)
 }
 
@@ -135,7 +135,9 @@ fn inners() -> Vec<Case> {
             p.counts[1] = vec![3];
         }),
         root("root-count-2-to-48", sum, 10, |p| p.counts[0] = variable(1 << 48)),
-        root("root-count-past-64-bits", sum, 10, |p| p.counts[0] = [vec![0x82; 9], vec![2]].concat()),
+        root("root-count-past-64-bits", sum, 10, |p| {
+            p.counts[0] = [vec![0x82; 9], vec![2]].concat()
+        }),
         root("root-count-not-shortest", children, 10, |p| p.counts[2] = vec![0x82, 0]),
         root("root-one-child-fewer", children, 10, |p| {
             p.children.pop();

@@ -15,7 +15,7 @@ pub fn cases() -> Vec<Case> {
     [newlines(), offsets(), lengths(), codes(), accepted()].into_iter().flatten().collect()
 }
 
-fn edited(name: &'static str, why: &'static str, edit: impl FnOnce(&mut Tiny)) -> Case {
+fn edited(name: &str, why: &str, edit: impl FnOnce(&mut Tiny)) -> Case {
     let mut store = tiny();
     edit(&mut store);
     Case::new(name, why, store.image())
@@ -26,7 +26,7 @@ fn root_calls() -> Vec<crate::subject::Question> {
     [page_calls(3, 0, &[]), vec![count()]].concat()
 }
 
-fn refused(name: &'static str, why: &'static str, edit: impl FnOnce(&mut Tiny)) -> Case {
+fn refused(name: &str, why: &str, edit: impl FnOnce(&mut Tiny)) -> Case {
     edited(name, why, edit).refuses(root_calls(), 7).says(find("forces"), "id 1")
 }
 

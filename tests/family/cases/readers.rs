@@ -18,12 +18,16 @@ pub fn cases() -> Vec<Case> {
             .says(lookup(0), "value 8469 0")
             .says(lookup(9), "value 12474 24")
             .says(lookup_text(NOTES, "abc"), "value 12557 6"),
-        Case::standard("reader-trusts-an-earlier-footer", "a good header whose footer belongs to an earlier chunk", |s| {
-            // Chunk 3 was to take the place of an earlier chunk 3, whose footer is still there.
-            s.plan.chunks[NEWEST].footer.set("version", 1);
-            s.plan.name_chunk_in(0, MIDDLE);
-            s.plan.name_chunk_in(1, MIDDLE);
-        })
+        Case::standard(
+            "reader-trusts-an-earlier-footer",
+            "a good header whose footer belongs to an earlier chunk",
+            |s| {
+                // Chunk 3 was to take the place of an earlier chunk 3, whose footer is still there.
+                s.plan.chunks[NEWEST].footer.set("version", 1);
+                s.plan.name_chunk_in(0, MIDDLE);
+                s.plan.name_chunk_in(1, MIDDLE);
+            },
+        )
         .says(open(), "chunk 2 block 3 version 2"),
         Case::standard("reader-compares-unsigned", "comparing number keys as unsigned", |_| {})
             .says(lookup(-5), "value 8378 24")

@@ -14,13 +14,13 @@ pub fn cases() -> Vec<Case> {
         .collect()
 }
 
-fn edited(name: &'static str, why: &'static str, edit: impl FnOnce(&mut Standard)) -> Case {
+fn edited(name: &str, why: &str, edit: impl FnOnce(&mut Standard)) -> Case {
     let mut store = lone();
     edit(&mut store);
     Case::new(name, why, store.plan.image())
 }
 
-fn refused(name: &'static str, why: &'static str, edit: impl FnOnce(&mut Standard)) -> Case {
+fn refused(name: &str, why: &str, edit: impl FnOnce(&mut Standard)) -> Case {
     edited(name, why, edit).refuses(vec![open()], 4)
 }
 
@@ -54,6 +54,7 @@ fn header_faults() -> Vec<Case> {
             newest_header(s).set("block", 3);
             footer(s).set("block", 3);
         }),
+        copied_block("header-names-a-copied-chunk", "block is b"),
         refused("chunk-header-not-a-line", "its header line", |s| newest_header(s).add("x", "01")),
         refused("chunk-header-without-newline", "no newline: no line", |s| {
             newest_header(s).newline = false;
@@ -77,6 +78,16 @@ fn header_faults() -> Vec<Case> {
             s.plan.name_chunk_in(0, NEWEST);
         }),
     ]
+}
+
+/// The newest chunk's block stands once more at the image's end, and there the headers name it.
+fn copied_block(name: &str, why: &str) -> Case {
+    let mut store = lone();
+    let mut copied = store.plan.chunks[NEWEST].clone();
+    copied.block = 6;
+    store.plan.chunks.push(copied);
+    set_header_block(&mut store, 6);
+    Case::new(name, why, store.plan.image()).refuses(vec![open()], 4)
 }
 
 fn set_header_block(store: &mut Standard, block: u64) {
