@@ -1,13 +1,14 @@
 //! `check` is the short run; `check --long SEED IMAGES` the long one, on that many random images;
 //! `check --store FILE DUMP` reads one more store that H2 wrote.
 
+use std::panic::{catch_unwind, AssertUnwindSafe};
 use std::path::Path;
 use std::process::ExitCode;
 use std::time::Instant;
 use std::{env, io};
 
 use vihtumora_tests::check::properties::{self, Maps};
-use vihtumora_tests::check::{codes, family, sparse, stores};
+use vihtumora_tests::check::{codes, family, seam, sparse, stores};
 use vihtumora_tests::subject::Judge;
 
 /// The random images of the short run.
@@ -29,6 +30,7 @@ fn main() -> io::Result<ExitCode> {
         _ => panic!("usage: check [--long SEED IMAGES | --store FILE DUMP]"),
     };
     let tally = &judge.tally;
+    tally.shown.iter().for_each(|what| eprintln!("disagreement: {what}"));
     println!(
         "tests: {} images, {} questions, {} disagreements",
         tally.images, tally.questions, tally.disagreements
@@ -48,19 +50,26 @@ fn short_run(judge: &mut Judge) -> io::Result<bool> {
     family::check(judge, &here.join("family/images.txt"))?;
     codes::check(judge);
     sparse::check(judge)?;
+    seam::check(judge);
     let mut maps = Maps::default();
     for number in 0..IMAGES {
-        properties::check(judge, &mut maps, SEED, number);
+        random_image(judge, &mut maps, SEED, number);
     }
     print_maps(&maps);
     Ok(judge.tally.print_table())
+}
+
+/// "no panic on any bytes": one that panics all the same is named.
+fn random_image(judge: &mut Judge, maps: &mut Maps, seed: u64, number: u64) {
+    let checked = catch_unwind(AssertUnwindSafe(|| properties::check(judge, maps, seed, number)));
+    judge.claim(checked.is_ok(), || format!("seed {seed} image {number}: a panic"));
 }
 
 fn long_run(judge: &mut Judge, seed: u64, images: u64) -> bool {
     let mut maps = Maps::default();
     let start = Instant::now();
     for number in 0..images {
-        properties::check(judge, &mut maps, seed, number);
+        random_image(judge, &mut maps, seed, number);
         if (number + 1) % STEP == 0 || number + 1 == images {
             let rate = (number + 1) as f64 / start.elapsed().as_secs_f64();
             println!("{} of {images} images, {rate:.0} images per second", number + 1);

@@ -4,6 +4,7 @@ pub mod codes;
 pub mod family;
 mod mapped;
 pub mod properties;
+pub mod seam;
 pub mod sparse;
 pub mod stores;
 mod stray;

@@ -13,7 +13,7 @@ pub fn damage(random: &mut Random, image: &mut Vec<u8>) {
     match random.below(12) {
         0 => cut(random, image),
         1 => move_block(random, image),
-        2 => zero_run(random, image),
+        2 => overwrite(random, image),
         3 | 4 => flip_line(random, image),
         _ => (0..random.range(1, 3)).for_each(|_| flip(random, image)),
     }
@@ -53,9 +53,11 @@ fn move_block(random: &mut Random, image: &mut [u8]) {
     }
 }
 
-fn zero_run(random: &mut Random, image: &mut [u8]) {
+/// A run of zeros, or of anything.
+fn overwrite(random: &mut Random, image: &mut [u8]) {
     let at = random.below(image.len() as u64);
-    let run = vec![0; random.range(1, 64) as usize];
+    let mask = if random.once_in(2) { 0 } else { 0xff };
+    let run: Vec<u8> = (0..random.range(1, 64)).map(|_| random.next() as u8 & mask).collect();
     write(image, at, &run);
 }
 

@@ -2,9 +2,6 @@
 
 use super::{Question, Reply, Subject, Tally};
 
-/// How many disagreements are printed in full.
-const SHOWN: u64 = 20;
-
 #[derive(Default)]
 pub struct Judge {
     pub tally: Tally,
@@ -25,7 +22,7 @@ impl Judge {
             match subject.reply(image, question) {
                 Some(other) if other != reply => {
                     let name = subject.name().to_string();
-                    self.tally.disagree(&format!("{question}: model {reply}; {name} {other}"));
+                    self.tally.disagree(format!("{question}: model {reply}; {name} {other}"));
                 }
                 _ => {}
             }
@@ -36,17 +33,7 @@ impl Judge {
     /// A claim about the answers; where it fails, that is a disagreement with 01.
     pub fn claim(&mut self, holds: bool, what: impl FnOnce() -> String) {
         if !holds {
-            self.tally.disagree(&what());
-        }
-    }
-}
-
-impl Tally {
-    /// Counts a disagreement and prints the first few.
-    pub fn disagree(&mut self, what: &str) {
-        self.disagreements += 1;
-        if self.disagreements <= SHOWN {
-            eprintln!("disagreement: {what}");
+            self.tally.disagree(what());
         }
     }
 }

@@ -16,11 +16,16 @@ const CALLS: [Call; 8] = [
     Call::Open,
 ];
 
+/// How many disagreements are kept to be shown.
+const SHOWN: usize = 20;
+
 #[derive(Default)]
 pub struct Tally {
     pub images: u64,
     pub questions: u64,
     pub disagreements: u64,
+    /// The first disagreements in words.
+    pub shown: Vec<String>,
     refused: [[u64; CALLS.len()]; LAST as usize + 1],
 }
 
@@ -32,6 +37,13 @@ impl Tally {
         let column = column(question.call()).filter(|_| !again);
         if let (Some(column), Answer::Refused(refusal)) = (column, &reply.answer) {
             self.refused[refusal.0 as usize][column] += 1;
+        }
+    }
+
+    pub fn disagree(&mut self, what: String) {
+        self.disagreements += 1;
+        if self.shown.len() < SHOWN {
+            self.shown.push(what);
         }
     }
 

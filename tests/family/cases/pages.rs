@@ -4,10 +4,14 @@
 use crate::build::page::{measured, variable, PagePlan};
 use crate::family::case::Case;
 use crate::family::questions::*;
-use crate::family::standard::{Standard, OLD};
+use crate::family::standard::{Standard, MIDDLE, OLD};
+use crate::family::tiny::tiny_with;
 
 pub fn cases() -> Vec<Case> {
-    [heads(), leaves(), text_leaves(), inners(), accepted()].into_iter().flatten().collect()
+    [heads(), leaves(), text_leaves(), long_keys(), long_values(), inners(), accepted()]
+        .into_iter()
+        .flatten()
+        .collect()
 }
 
 /// A fault in the leaf of keys 0 and 7.
@@ -121,6 +125,48 @@ fn text_leaves() -> Vec<Case> {
         fault("text-key-length-not-shortest", length, vec![0x81, 0x00, b'a']),
         fault("text-key-length-1025", length, variable(1025)),
         fault("text-key-cut", length, vec![0x7f, b'a']),
+    ]
+}
+
+/// A key of 1,024 bytes is read, one of 1,025 is not, though all its bytes are there.
+fn long_keys() -> Vec<Case> {
+    let edited = |name, length: usize| {
+        Case::standard(name, "a variable-size length up to 1,024", |s| {
+            let entries = [(vec![], vec![]), (vec![b'a'; length], vec![b'v'])];
+            let leaf = s.plan.put(MIDDLE, PagePlan::leaf(2, 1, &entries));
+            let position = s.plan.position(leaf);
+            let root = s.plan.page(s.notes);
+            root.children[0] = position;
+            root.counts[0] = vec![2];
+        })
+    };
+    let longest = lookup_text(NOTES, &"a".repeat(1024));
+    let asked = || vec![lookup_text(NOTES, ""), index_in(NOTES, 1), walk_in(NOTES, &[])];
+    vec![
+        edited("text-key-of-1024-bytes", 1024)
+            .says(longest, "value 14039 1")
+            .says(examine_of(NOTES), "report 5 3 2"),
+        edited("text-key-of-1025-bytes", 1025)
+            .refuses(asked(), 10)
+            .refuses(vec![examine_of(NOTES)], 10),
+    ]
+}
+
+/// A value of 65,535 bytes is read, one of 65,536 is not, though all its bytes are there.
+fn long_values() -> Vec<Case> {
+    let edited = |name, length: usize| {
+        let mut store = tiny_with(159, 20);
+        store.leaf().offset = 8192;
+        store.leaf().values[1] = measured(&vec![0; length]);
+        store.leaf().code = 31;
+        Case::new(name, "a variable-size length up to 65,535", store.image())
+    };
+    vec![
+        edited("value-of-65535-bytes", 65535)
+            .says(lookup(4), "value 16437 65535")
+            .says(examine(), "report 2 1 1"),
+        edited("value-of-65536-bytes", 65536)
+            .refuses(vec![lookup(3), lookup(4), index(0), walk(&[]), examine(), count()], 10),
     ]
 }
 
