@@ -19,13 +19,18 @@ pub struct Case {
     pub claims: Vec<(Question, String)>,
 }
 
+/// Lists of cases one after the other.
+pub fn join(lists: Vec<Vec<Case>>) -> Vec<Case> {
+    lists.into_iter().flatten().collect()
+}
+
 impl Case {
     pub fn new(name: &str, why: &str, image: Vec<u8>) -> Case {
         Case { name: name.to_string(), why: why.to_string(), image, claims: Vec::new() }
     }
 
     /// The standard store after a change.
-    pub fn standard(name: &str, why: &str, edit: impl FnOnce(&mut Standard)) -> Case {
+    pub fn standard(name: &str, why: &str, edit: &dyn Fn(&mut Standard)) -> Case {
         let mut store = standard();
         edit(&mut store);
         Case::new(name, why, store.plan.image())

@@ -22,11 +22,28 @@ pub fn damage(random: &mut Random, plan: &mut Plan) {
 fn damage_some_page(random: &mut Random, plan: &mut Plan, chunk: usize) {
     let positions: Vec<u64> =
         plan.chunks.iter().flat_map(|c| c.pages.iter().map(|page| page.position(c.id))).collect();
+    let id = plan.chunks[chunk].id;
     if let Some(page) = some(random, &mut plan.chunks[chunk].pages) {
-        match random.below(3) {
+        match random.below(4) {
             0 => damage_head(random, page),
             _ if page.type_bit == 1 => damage_inner(random, page, &positions),
+            1 => {
+                empty(page);
+                let position = page.position(id);
+                record_empty(plan, position);
+            }
             _ => damage_leaf(random, page),
+        }
+    }
+}
+
+/// Lets the pages above a leaf say that it has no entries.
+fn record_empty(plan: &mut Plan, position: u64) {
+    for page in plan.chunks.iter_mut().flat_map(|chunk| &mut chunk.pages) {
+        for (child, count) in page.children.iter().zip(&mut page.counts) {
+            if *child == position {
+                *count = variable(0);
+            }
         }
     }
 }

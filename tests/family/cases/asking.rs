@@ -2,13 +2,13 @@
 
 use crate::build::page::{variable, PagePlan};
 use crate::build::tree::number_key;
-use crate::family::case::Case;
+use crate::family::case::{join, Case};
 use crate::family::questions::*;
 use crate::family::standard::{numbered, Standard};
 use crate::subject::{MapArgs, Question};
 
 pub fn cases() -> Vec<Case> {
-    [arguments(), names(), roots(), lookups(), indexes(), copies()].into_iter().flatten().collect()
+    join(vec![arguments(), names(), roots(), lookups(), indexes(), copies()])
 }
 
 /// Refusal 1 in each call.
@@ -16,7 +16,7 @@ fn arguments() -> Vec<Case> {
     let why = "kind not 0 or 1; map 0 with kind 0; map id above 2^31-1; key badly formed; map name";
     let key = |map, key: &[u8]| Question::Lookup { map, key: key.to_vec() };
     let maps = [(1, 2), (1, u64::MAX), (0, 0), (1 << 31, 0), (u64::MAX, 1)];
-    let mut case = Case::standard("bad-arguments", why, |_| {});
+    let mut case = Case::standard("bad-arguments", why, &|_| {});
     for (id, kind) in maps {
         let map = MapArgs { id, kind };
         let asked = [
@@ -47,10 +47,10 @@ fn names() -> Vec<Case> {
     let digits = "hex values follow the digits rule of a line";
     let range = "an id is 1 to 2^31-1";
     let named = |name, why, value: &str| {
-        Case::standard(name, why, |s| s.set_metadata("name.forces", value))
+        Case::standard(name, why, &|s| s.set_metadata("name.forces", value))
     };
     vec![
-        Case::standard("name-missing", "no such map name", |s| s.remove_metadata("name.forces"))
+        Case::standard("name-missing", "no such map name", &|s| s.remove_metadata("name.forces"))
             .refuses(vec![find("forces")], 13),
         named("name-id-empty", digits, "").refuses(vec![find("forces")], 14),
         named("name-id-leading-zero", digits, "01").refuses(vec![find("forces")], 14),
@@ -70,9 +70,9 @@ fn roots() -> Vec<Case> {
     let absent = "root absent meaning 0";
     let takers = || [vec![count()], page_calls(0, 0, &[])].concat();
     let rooted = |name, why, value: &str| {
-        Case::standard(name, why, |s| s.set_metadata("root.1", value)).refuses(takers(), 14)
+        Case::standard(name, why, &|s| s.set_metadata("root.1", value)).refuses(takers(), 14)
     };
-    let empty = |name, edit: fn(&mut Standard)| {
+    let empty = |name, edit: &dyn Fn(&mut Standard)| {
         let case = Case::standard(name, absent, edit).says(count(), "count 0");
         let case = case.says(examine(), "report 0 0 0").says(lookup(0), "absent");
         let case = case.says(index(0), "refused 15").says(walk(&[]), "done");
@@ -84,9 +84,9 @@ fn roots() -> Vec<Case> {
         rooted("root-entry-upper-case", digits, "4000004F8C"),
         rooted("root-entry-17-digits", digits, "10000000000000000"),
         rooted("root-entry-not-digits", digits, "1x"),
-        empty("root-entry-missing", |s| s.remove_metadata("root.1")),
-        empty("root-entry-0", |s| s.set_metadata("root.1", "0")),
-        Case::standard("root-entry-64-bits", "a position is 64 bits", |s| {
+        empty("root-entry-missing", &|s| s.remove_metadata("root.1")),
+        empty("root-entry-0", &|s| s.set_metadata("root.1", "0")),
+        Case::standard("root-entry-64-bits", "a position is 64 bits", &|s| {
             s.set_metadata("root.1", "ffffffffffffffff");
         })
         .refuses(takers(), 5),
@@ -106,21 +106,21 @@ fn lookups() -> Vec<Case> {
     let child = "how many leading keys, up to the first greater one, are not greater";
     let at = |value: &str| format!("value {value}");
     vec![
-        Case::standard("leaf-greater-key-first", first, |s| leaf_keys(s, &[7, 0]))
+        Case::standard("leaf-greater-key-first", first, &|s| leaf_keys(s, &[7, 0]))
             .says(lookup(0), "absent")
             .says(lookup(7), &at("8469 0"))
             .says(examine(), "refused 12"),
-        Case::standard("leaf-key-twice", first, |s| leaf_keys(s, &[0, 0, 7]))
+        Case::standard("leaf-key-twice", first, &|s| leaf_keys(s, &[0, 0, 7]))
             .says(lookup(0), &at("8477 0"))
             .says(examine(), "refused 12"),
-        Case::standard("separators-fall", child, |s| s.plan.page(s.forces).keys.swap(0, 1))
+        Case::standard("separators-fall", child, &|s| s.plan.page(s.forces).keys.swap(0, 1))
             .says(lookup(0), "absent")
             .says(lookup(-1), &at("8403 24"))
             .says(examine(), "refused 12"),
         Case::standard(
             "separator-equal-goes-right",
             "an entry equal to a separator is to its right",
-            |s| {
+            &|s| {
                 s.plan.page(s.forces).keys[0] = number_key(7);
             },
         )
@@ -134,7 +134,7 @@ fn lookups() -> Vec<Case> {
 fn indexes() -> Vec<Case> {
     let by = "the child is chosen by the recorded counts, left to right";
     let counts = |name, why, counts: [u64; 3]| {
-        Case::standard(name, why, |s| {
+        Case::standard(name, why, &|s| {
             s.plan.page(s.forces).counts = counts.iter().map(|&c| variable(c)).collect();
         })
         .says(examine(), "refused 12")
@@ -164,7 +164,7 @@ fn indexes() -> Vec<Case> {
 fn copies() -> Vec<Case> {
     let kept = format!("refused 16; area {}", "a5".repeat(23));
     let value: String = (9..33).map(|byte| format!("{byte:02x}")).collect();
-    vec![Case::standard("copy-areas", "copy area smaller than the value", |_| {})
+    vec![Case::standard("copy-areas", "copy area smaller than the value", &|_| {})
         .says(copy(9, 23), &kept)
         .says(copy(9, 0), "refused 16; area -")
         .says(copy(9, 24), &format!("value 12474 24; area {value}"))

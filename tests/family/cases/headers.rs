@@ -2,32 +2,21 @@
 
 use crate::build::line::{LinePlan, Sum};
 use crate::family::base::single;
-use crate::family::case::Case;
+use crate::family::case::{join, Case};
 use crate::family::questions::*;
 
 pub fn cases() -> Vec<Case> {
-    [fields(), fletchers(), lines(), accepted()].concat_cases()
+    join(vec![fields(), fletchers(), lines(), accepted()])
 }
 
-/// Joins lists of cases.
-trait ConcatCases {
-    fn concat_cases(self) -> Vec<Case>;
-}
-
-impl<const N: usize> ConcatCases for [Vec<Case>; N] {
-    fn concat_cases(self) -> Vec<Case> {
-        self.into_iter().flatten().collect()
-    }
-}
-
-fn edited(name: &str, why: &str, edit: impl FnOnce(&mut LinePlan)) -> Case {
+fn edited(name: &str, why: &str, edit: &dyn Fn(&mut LinePlan)) -> Case {
     let mut store = single();
     edit(&mut store.plan.headers[0]);
     Case::new(name, why, store.plan.image())
 }
 
 /// A header that is not good: refusal 3.
-fn refused(name: &str, why: &str, edit: impl FnOnce(&mut LinePlan)) -> Case {
+fn refused(name: &str, why: &str, edit: &dyn Fn(&mut LinePlan)) -> Case {
     edited(name, why, edit).refuses(vec![open()], 3)
 }
 
@@ -36,18 +25,18 @@ fn fields() -> Vec<Case> {
     let due = "a file header copy is good if its line has H:2, blockSize:1000, format:1";
     let named = "either all of block, chunk, version or none";
     vec![
-        refused("header-h-3", due, |l| l.set("H", 3)),
-        refused("header-without-h", due, |l| l.remove("H")),
-        refused("header-lower-case-h", due, |l| l.fields[0].0 = "h".into()),
-        refused("header-block-size-800", due, |l| l.set("blockSize", 0x800)),
-        refused("header-block-size-decimal", due, |l| l.set("blockSize", 0x4096)),
-        refused("header-without-block-size", due, |l| l.remove("blockSize")),
-        refused("header-format-2", due, |l| l.set("format", 2)),
-        refused("header-without-format", due, |l| l.remove("format")),
-        refused("header-without-block", named, |l| l.remove("block")),
-        refused("header-without-chunk", named, |l| l.remove("chunk")),
-        refused("header-without-version", named, |l| l.remove("version")),
-        refused("header-with-version-alone", named, |l| {
+        refused("header-h-3", due, &|l| l.set("H", 3)),
+        refused("header-without-h", due, &|l| l.remove("H")),
+        refused("header-lower-case-h", due, &|l| l.fields[0].0 = "h".into()),
+        refused("header-block-size-800", due, &|l| l.set("blockSize", 0x800)),
+        refused("header-block-size-decimal", due, &|l| l.set("blockSize", 0x4096)),
+        refused("header-without-block-size", due, &|l| l.remove("blockSize")),
+        refused("header-format-2", due, &|l| l.set("format", 2)),
+        refused("header-without-format", due, &|l| l.remove("format")),
+        refused("header-without-block", named, &|l| l.remove("block")),
+        refused("header-without-chunk", named, &|l| l.remove("chunk")),
+        refused("header-without-version", named, &|l| l.remove("version")),
+        refused("header-with-version-alone", named, &|l| {
             l.remove("block");
             l.remove("chunk");
         }),
@@ -59,26 +48,26 @@ fn fletchers() -> Vec<Case> {
     let ends = "file headers end with the field fletcher";
     let odd = "an odd last byte is not counted";
     vec![
-        refused("header-sum-wrong", "a right fletcher", |l| l.sum = Sum::Xor(1)),
-        refused("header-sum-first-and-second-swapped", "second sum times 65536 plus first", |l| {
+        refused("header-sum-wrong", "a right fletcher", &|l| l.sum = Sum::Xor(1)),
+        refused("header-sum-first-and-second-swapped", "second sum times 65536 plus first", &|l| {
             let sum = crate::model::fletcher::fletcher(&text_before_sum(l));
             l.sum = Sum::Xor(sum ^ (sum >> 16 | (sum & 0xffff) << 16));
         }),
-        refused("header-without-sum", ends, |l| l.sum = Sum::None),
-        refused("header-sum-not-last", ends, |l| {
+        refused("header-without-sum", ends, &|l| l.sum = Sum::None),
+        refused("header-sum-not-last", ends, &|l| {
             let sum = crate::model::fletcher::fletcher(&text_before_sum(l));
             l.sum = Sum::None;
             l.set("fletcher", sum);
             l.set("created", 1);
         }),
-        refused("header-sum-twice", "no name occurs twice", |l| l.set("fletcher", 1)),
-        refused("header-odd-byte-counted", odd, |l| {
+        refused("header-sum-twice", "no name occurs twice", &|l| l.set("fletcher", 1)),
+        refused("header-odd-byte-counted", odd, &|l| {
             make_odd(l);
             let text = text_before_sum(l);
             let counted = crate::model::fletcher::fletcher(&[&text[..], &[0]].concat());
             l.sum = Sum::Xor(crate::model::fletcher::fletcher(&text) ^ counted);
         }),
-        refused("header-of-the-documents", "that copy isn't good", |l| {
+        refused("header-of-the-documents", "that copy isn't good", &|l| {
             l.fields.clear();
             for (name, value) in [("H", 2), ("block", 2), ("blockSize", 0x1000), ("chunk", 7)] {
                 l.set(name, value);
@@ -88,7 +77,7 @@ fn fletchers() -> Vec<Case> {
             }
             l.sum = Sum::Xor(0x1a2bd87b ^ 0x3044e6cc);
         }),
-        edited("header-odd-text", odd, make_odd).says(open(), "chunk 3 block 5 version 3"),
+        edited("header-odd-text", odd, &make_odd).says(open(), "chunk 3 block 5 version 3"),
     ]
 }
 
@@ -115,31 +104,33 @@ fn lines() -> Vec<Case> {
     let digits = "1 to 16 digits 0-9a-f with no leading zero unless the value is 0";
     let twice = "no name occurs twice";
     vec![
-        refused("header-without-newline", "no newline: no line", |l| l.newline = false),
-        refused("header-newline-in-next-block", "a file header's block", |l| l.newline_from = 4096),
-        refused("header-doubled-comma", joined, |l| l.set_text("H", "2,")),
-        refused("header-leading-comma", joined, |l| l.fields[0].0 = ",H".into()),
-        refused("header-semicolon", joined, |l| l.set_text("H", "2;x:1")),
-        refused("header-trailing-comma", joined, |l| l.trailing = b",".to_vec()),
-        refused("header-trailing-tab", "less trailing spaces", |l| l.trailing = b"\t".to_vec()),
-        refused("header-trailing-return", "less trailing spaces", |l| l.trailing = b"\r".to_vec()),
-        refused("header-leading-space", joined, |l| l.fields[0].0 = " H".into()),
-        refused("header-space-after-comma", name, |l| l.add(" x", "1")),
-        refused("header-name-of-17-letters", name, |l| l.add("abcdefghijklmnopq", "1")),
-        refused("header-empty-name", name, |l| l.add("", "1")),
-        refused("header-digit-in-name", name, |l| l.add("a1", "1")),
-        refused("header-value-of-17-digits", digits, |l| l.add("x", "12345678901234567")),
-        refused("header-empty-value", digits, |l| l.add("x", "")),
-        refused("header-leading-zero", digits, |l| l.set_text("version", "03")),
-        refused("header-double-zero", digits, |l| l.add("x", "00")),
-        refused("header-upper-case-digit", digits, |l| l.add("x", "A")),
-        refused("header-quoted-text", "left out: quoted text in lines", |l| l.add("x", "\"a\"")),
-        refused("header-known-name-twice", twice, |l| l.add("H", "2")),
-        refused("header-unknown-name-twice", twice, |l| {
+        refused("header-without-newline", "no newline: no line", &|l| l.newline = false),
+        refused("header-newline-in-next-block", "a file header's block", &|l| {
+            l.newline_from = 4096
+        }),
+        refused("header-doubled-comma", joined, &|l| l.set_text("H", "2,")),
+        refused("header-leading-comma", joined, &|l| l.fields[0].0 = ",H".into()),
+        refused("header-semicolon", joined, &|l| l.set_text("H", "2;x:1")),
+        refused("header-trailing-comma", joined, &|l| l.trailing = b",".to_vec()),
+        refused("header-trailing-tab", "less trailing spaces", &|l| l.trailing = b"\t".to_vec()),
+        refused("header-trailing-return", "less trailing spaces", &|l| l.trailing = b"\r".to_vec()),
+        refused("header-leading-space", joined, &|l| l.fields[0].0 = " H".into()),
+        refused("header-space-after-comma", name, &|l| l.add(" x", "1")),
+        refused("header-name-of-17-letters", name, &|l| l.add("abcdefghijklmnopq", "1")),
+        refused("header-empty-name", name, &|l| l.add("", "1")),
+        refused("header-digit-in-name", name, &|l| l.add("a1", "1")),
+        refused("header-value-of-17-digits", digits, &|l| l.add("x", "12345678901234567")),
+        refused("header-empty-value", digits, &|l| l.add("x", "")),
+        refused("header-leading-zero", digits, &|l| l.set_text("version", "03")),
+        refused("header-double-zero", digits, &|l| l.add("x", "00")),
+        refused("header-upper-case-digit", digits, &|l| l.add("x", "A")),
+        refused("header-quoted-text", "left out: quoted text in lines", &|l| l.add("x", "\"a\"")),
+        refused("header-known-name-twice", twice, &|l| l.add("H", "2")),
+        refused("header-unknown-name-twice", twice, &|l| {
             l.add("x", "1");
             l.add("x", "1");
         }),
-        refused("header-newline-first", "the bytes before the first newline", |l| {
+        refused("header-newline-first", "the bytes before the first newline", &|l| {
             l.fields[0].0 = "\nH".into();
         }),
     ]
@@ -147,19 +138,19 @@ fn lines() -> Vec<Case> {
 
 /// What looks odd and is good.
 fn accepted() -> Vec<Case> {
-    let opens = |name, why, edit: fn(&mut LinePlan)| {
+    let opens = |name, why, edit: &dyn Fn(&mut LinePlan)| {
         edited(name, why, edit).says(open(), "chunk 3 block 5 version 3")
     };
     vec![
-        opens("header-name-of-16-letters", "1 to 16 ASCII letters", |l| {
+        opens("header-name-of-16-letters", "1 to 16 ASCII letters", &|l| {
             l.add("abcdefghijklmnop", "1");
         }),
-        opens("header-value-of-16-digits", "1 to 16 digits", |l| l.add("x", "ffffffffffffffff")),
-        opens("header-trailing-spaces", "less trailing spaces", |l| l.trailing = vec![b' '; 9]),
-        opens("header-newline-ends-block", "a file header's block", |l| l.newline_from = 4095),
-        opens("header-other-case-is-another-name", "no name occurs twice", |l| l.add("h", "3")),
-        opens("header-value-zero", "unless the value is 0", |l| l.add("x", "0")),
-        opens("header-names-no-chunk", "or none", |l| {
+        opens("header-value-of-16-digits", "1 to 16 digits", &|l| l.add("x", "ffffffffffffffff")),
+        opens("header-trailing-spaces", "less trailing spaces", &|l| l.trailing = vec![b' '; 9]),
+        opens("header-newline-ends-block", "a file header's block", &|l| l.newline_from = 4095),
+        opens("header-other-case-is-another-name", "no name occurs twice", &|l| l.add("h", "3")),
+        opens("header-value-zero", "unless the value is 0", &|l| l.add("x", "0")),
+        opens("header-names-no-chunk", "or none", &|l| {
             for name in ["block", "chunk", "version"] {
                 l.remove(name);
             }

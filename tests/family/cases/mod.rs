@@ -13,11 +13,11 @@ mod standing;
 mod walking;
 
 use super::base;
-use super::case::{Base, Case};
+use super::case::{join, Base, Case};
 use super::seeded;
 
 pub fn all() -> Vec<(Base, Vec<Case>)> {
-    let standard = [
+    let standard = vec![
         pages::cases(),
         asking::cases(),
         walking::cases(),
@@ -28,7 +28,7 @@ pub fn all() -> Vec<(Base, Vec<Case>)> {
         seeded::cases(),
     ];
     vec![
-        (base::standard_base(), standard.into_iter().flatten().collect()),
+        (base::standard_base(), join(standard)),
         (base::tiny_base(), place::cases()),
         (base::single_base(), headers::cases()),
         (base::lone_base(), standing::cases()),

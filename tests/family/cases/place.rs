@@ -2,7 +2,7 @@
 //! store. The root of `forces` is the leaf that is moved about.
 
 use crate::build::page::PagePlan;
-use crate::family::case::Case;
+use crate::family::case::{join, Case};
 use crate::family::questions::*;
 use crate::family::tiny::{tiny, tiny_with, Tiny};
 use crate::model::image::BLOCK;
@@ -12,10 +12,10 @@ use crate::model::position::bound;
 const FOOTER_AT: u64 = BLOCK - 128;
 
 pub fn cases() -> Vec<Case> {
-    [newlines(), offsets(), lengths(), codes(), accepted()].into_iter().flatten().collect()
+    join(vec![newlines(), offsets(), lengths(), codes(), accepted()])
 }
 
-fn edited(name: &str, why: &str, edit: impl FnOnce(&mut Tiny)) -> Case {
+fn edited(name: &str, why: &str, edit: &dyn Fn(&mut Tiny)) -> Case {
     let mut store = tiny();
     edit(&mut store);
     Case::new(name, why, store.image())
@@ -26,7 +26,7 @@ fn root_calls() -> Vec<crate::subject::Question> {
     [page_calls(3, 0, &[]), vec![count()]].concat()
 }
 
-fn refused(name: &str, why: &str, edit: impl FnOnce(&mut Tiny)) -> Case {
+fn refused(name: &str, why: &str, edit: &dyn Fn(&mut Tiny)) -> Case {
     edited(name, why, edit).refuses(root_calls(), 7).says(find("forces"), "id 1")
 }
 
@@ -47,13 +47,13 @@ fn offsets() -> Vec<Case> {
     let before = "not before the byte after the chunk header's newline";
     let footer = "nor less than 9 bytes before the footer";
     vec![
-        refused("page-at-the-chunks-start", before, |t| set_offset(t, 0)),
-        refused("page-in-the-header-line", before, |t| set_offset(t, 20)),
-        refused("page-on-the-newline", before, |t| set_offset(t, 159)),
-        refused("page-8-bytes-before-the-footer", footer, |t| set_offset(t, FOOTER_AT - 8)),
-        refused("page-in-the-footer", footer, |t| set_offset(t, FOOTER_AT)),
-        refused("page-past-the-chunk", footer, |t| set_offset(t, BLOCK + 160)),
-        refused("page-at-the-last-offset", footer, |t| set_offset(t, u64::from(u32::MAX))),
+        refused("page-at-the-chunks-start", before, &|t| set_offset(t, 0)),
+        refused("page-in-the-header-line", before, &|t| set_offset(t, 20)),
+        refused("page-on-the-newline", before, &|t| set_offset(t, 159)),
+        refused("page-8-bytes-before-the-footer", footer, &|t| set_offset(t, FOOTER_AT - 8)),
+        refused("page-in-the-footer", footer, &|t| set_offset(t, FOOTER_AT)),
+        refused("page-past-the-chunk", footer, &|t| set_offset(t, BLOCK + 160)),
+        refused("page-at-the-last-offset", footer, &|t| set_offset(t, u64::from(u32::MAX))),
     ]
 }
 
@@ -69,23 +69,23 @@ fn lengths() -> Vec<Case> {
     let least = "length at least 9";
     let ends = "ending no later than the footer begins";
     vec![
-        refused("page-length-0", least, |t| t.leaf().length = Some(0)),
-        refused("page-length-8", least, |t| t.leaf().length = Some(8)),
-        refused("page-length-of-32-bits", ends, |t| {
+        refused("page-length-0", least, &|t| t.leaf().length = Some(0)),
+        refused("page-length-8", least, &|t| t.leaf().length = Some(8)),
+        refused("page-length-of-32-bits", ends, &|t| {
             t.leaf().length = Some(u64::from(u32::MAX));
             t.leaf().code = 31;
         }),
-        refused("page-length-2-to-31", ends, |t| {
+        refused("page-length-2-to-31", ends, &|t| {
             t.leaf().length = Some(1 << 31);
             t.leaf().code = 31;
         }),
-        refused("page-a-byte-into-the-footer", ends, |t| {
+        refused("page-a-byte-into-the-footer", ends, &|t| {
             // The byte that both claim is the footer's first, a c.
             *t.leaf().values[1].last_mut().expect("a value with its length") = b'c';
             let length = t.leaf().true_length();
             t.leaf().offset = FOOTER_AT - length + 1;
         }),
-        refused("page-longer-than-the-chunk-has", ends, |t| {
+        refused("page-longer-than-the-chunk-has", ends, &|t| {
             t.leaf().length = Some(BLOCK);
             t.leaf().code = 31;
         }),
@@ -109,9 +109,9 @@ fn codes() -> Vec<Case> {
     let mut cases = Vec::new();
     for (at, past, code) in names {
         let most = bound(code).expect("a code below 31");
-        let good = edited(at, why, |t| t.set_leaf_length(most));
+        let good = edited(at, why, &|t| t.set_leaf_length(most));
         cases.push(good.says(examine(), "report 2 1 1"));
-        cases.push(refused(past, why, |t| {
+        cases.push(refused(past, why, &|t| {
             t.set_leaf_length(most + 1);
             t.leaf().code = code;
         }));
@@ -122,21 +122,21 @@ fn codes() -> Vec<Case> {
 fn accepted() -> Vec<Case> {
     let stays = "ending no later than the footer begins";
     vec![
-        edited("page-ends-at-the-footer", stays, |t| {
+        edited("page-ends-at-the-footer", stays, &|t| {
             let length = t.leaf().true_length();
             t.leaf().offset = FOOTER_AT - length;
         })
         .says(examine(), "report 2 1 1"),
-        edited("page-of-9-bytes-before-the-footer", "nor less than 9 bytes before", |t| {
+        edited("page-of-9-bytes-before-the-footer", "nor less than 9 bytes before", &|t| {
             *t.leaf() = PagePlan { offset: FOOTER_AT - 9, ..PagePlan::leaf(1, 0, &[]) };
         })
         .says(examine(), "report 0 1 1")
         .says(count(), "count 0")
         .says(walk(&[]), "done")
         .says(index(0), "refused 15"),
-        edited("code-30-for-a-small-page", "within the code's bound", |t| t.leaf().code = 30)
+        edited("code-30-for-a-small-page", "within the code's bound", &|t| t.leaf().code = 30)
             .says(examine(), "report 2 1 1"),
-        edited("code-31-for-a-small-page", "code 31 sets no bound", |t| t.leaf().code = 31)
+        edited("code-31-for-a-small-page", "code 31 sets no bound", &|t| t.leaf().code = 31)
             .says(examine(), "report 2 1 1"),
     ]
 }

@@ -3,24 +3,21 @@
 
 use crate::build::line::{LinePlan, Sum};
 use crate::family::base::{lone, newest_header};
-use crate::family::case::Case;
+use crate::family::case::{join, Case};
 use crate::family::questions::*;
 use crate::family::standard::{Standard, MIDDLE, NEWEST};
 
 pub fn cases() -> Vec<Case> {
-    [missing_fields(), header_faults(), footer_faults(), ends(), accepted()]
-        .into_iter()
-        .flatten()
-        .collect()
+    join(vec![missing_fields(), header_faults(), footer_faults(), ends(), accepted()])
 }
 
-fn edited(name: &str, why: &str, edit: impl FnOnce(&mut Standard)) -> Case {
+fn edited(name: &str, why: &str, edit: &dyn Fn(&mut Standard)) -> Case {
     let mut store = lone();
     edit(&mut store);
     Case::new(name, why, store.plan.image())
 }
 
-fn refused(name: &str, why: &str, edit: impl FnOnce(&mut Standard)) -> Case {
+fn refused(name: &str, why: &str, edit: &dyn Fn(&mut Standard)) -> Case {
     edited(name, why, edit).refuses(vec![open()], 4)
 }
 
@@ -39,38 +36,38 @@ fn missing_fields() -> Vec<Case> {
         ("chunk-header-without-root", "root"),
         ("chunk-header-without-version", "version"),
     ];
-    names.map(|(name, field)| refused(name, why, |s| newest_header(s).remove(field))).into()
+    names.map(|(name, field)| refused(name, why, &|s| newest_header(s).remove(field))).into()
 }
 
 fn header_faults() -> Vec<Case> {
     vec![
-        refused("chunk-id-2-to-26", "chunk is below 2^26", |s| {
+        refused("chunk-id-2-to-26", "chunk is below 2^26", &|s| {
             let chunk = &mut s.plan.chunks[NEWEST];
             chunk.header.set("chunk", 1 << 26);
             chunk.footer.set("chunk", 1 << 26);
             s.plan.name_chunk(NEWEST);
         }),
-        refused("chunk-header-names-another-block", "block is b", |s| {
+        refused("chunk-header-names-another-block", "block is b", &|s| {
             newest_header(s).set("block", 3);
             footer(s).set("block", 3);
         }),
         copied_block("header-names-a-copied-chunk", "block is b"),
-        refused("chunk-header-not-a-line", "its header line", |s| newest_header(s).add("x", "01")),
-        refused("chunk-header-without-newline", "no newline: no line", |s| {
+        refused("chunk-header-not-a-line", "its header line", &|s| newest_header(s).add("x", "01")),
+        refused("chunk-header-without-newline", "no newline: no line", &|s| {
             newest_header(s).newline = false;
         }),
-        refused("header-names-another-chunk", "with the header's chunk id", |s| {
+        refused("header-names-another-chunk", "with the header's chunk id", &|s| {
             s.plan.headers[0].set("chunk", 2);
             s.plan.headers[1].set("chunk", 2);
         }),
-        refused("header-block-0", "b is at least 2", |s| set_header_block(s, 0)),
-        refused("header-block-past-the-image", "b+len is at most the image's blocks", |s| {
+        refused("header-block-0", "b is at least 2", &|s| set_header_block(s, 0)),
+        refused("header-block-past-the-image", "b+len is at most the image's blocks", &|s| {
             set_header_block(s, 7);
         }),
-        refused("header-block-huge", "b+len is at most the image's blocks", |s| {
+        refused("header-block-huge", "b+len is at most the image's blocks", &|s| {
             set_header_block(s, u64::MAX);
         }),
-        refused("chunk-at-block-1", "b is at least 2", |s| {
+        refused("chunk-at-block-1", "b is at least 2", &|s| {
             let chunk = &mut s.plan.chunks[NEWEST];
             chunk.header.set("block", 1);
             chunk.footer.set("block", 1);
@@ -101,19 +98,19 @@ fn footer_faults() -> Vec<Case> {
     let same = "the same chunk, block and version";
     let right = "a footer line with a right fletcher";
     vec![
-        refused("footer-sum-wrong", right, |s| footer(s).sum = Sum::Xor(0x10000)),
-        refused("footer-without-sum", right, |s| footer(s).sum = Sum::None),
-        refused("footer-without-newline", right, |s| footer(s).newline = false),
-        refused("footer-newline-past-128", "a footer's 128 bytes", |s| {
+        refused("footer-sum-wrong", right, &|s| footer(s).sum = Sum::Xor(0x10000)),
+        refused("footer-without-sum", right, &|s| footer(s).sum = Sum::None),
+        refused("footer-without-newline", right, &|s| footer(s).newline = false),
+        refused("footer-newline-past-128", "a footer's 128 bytes", &|s| {
             footer(s).newline_from = 128;
         }),
-        refused("footer-not-a-line", right, |s| footer(s).add("x", "01")),
-        refused("footer-of-another-chunk", same, |s| footer(s).set("chunk", 2)),
-        refused("footer-of-another-block", same, |s| footer(s).set("block", 3)),
-        refused("footer-of-another-version", "here it counts", |s| footer(s).set("version", 2)),
-        refused("footer-without-chunk", same, |s| footer(s).remove("chunk")),
-        refused("footer-without-block", same, |s| footer(s).remove("block")),
-        refused("footer-without-version", same, |s| footer(s).remove("version")),
+        refused("footer-not-a-line", right, &|s| footer(s).add("x", "01")),
+        refused("footer-of-another-chunk", same, &|s| footer(s).set("chunk", 2)),
+        refused("footer-of-another-block", same, &|s| footer(s).set("block", 3)),
+        refused("footer-of-another-version", "here it counts", &|s| footer(s).set("version", 2)),
+        refused("footer-without-chunk", same, &|s| footer(s).remove("chunk")),
+        refused("footer-without-block", same, &|s| footer(s).remove("block")),
+        refused("footer-without-version", same, &|s| footer(s).remove("version")),
     ]
 }
 
@@ -121,11 +118,11 @@ fn footer_faults() -> Vec<Case> {
 fn ends() -> Vec<Case> {
     let most = "b+len is at most the image's blocks";
     vec![
-        refused("chunk-len-0", "len is at least 1", |s| newest_header(s).set("len", 0)),
-        refused("chunk-len-past-the-image", most, |s| newest_header(s).set("len", 3)),
-        refused("chunk-len-of-64-bits", most, |s| newest_header(s).set("len", u64::MAX)),
-        refused("chunk-len-that-wraps", most, |s| newest_header(s).set("len", u64::MAX - 3)),
-        refused("chunk-len-2-no-footer-there", "the last 128 bytes of block b+len-1", |s| {
+        refused("chunk-len-0", "len is at least 1", &|s| newest_header(s).set("len", 0)),
+        refused("chunk-len-past-the-image", most, &|s| newest_header(s).set("len", 3)),
+        refused("chunk-len-of-64-bits", most, &|s| newest_header(s).set("len", u64::MAX)),
+        refused("chunk-len-that-wraps", most, &|s| newest_header(s).set("len", u64::MAX - 3)),
+        refused("chunk-len-2-no-footer-there", "the last 128 bytes of block b+len-1", &|s| {
             newest_header(s).set("len", 2);
         }),
     ]
@@ -134,30 +131,30 @@ fn ends() -> Vec<Case> {
 fn accepted() -> Vec<Case> {
     let newest = "chunk 3 block 5 version 3";
     vec![
-        edited("chunk-id-2-to-26-less-1", "chunk is below 2^26", |s| {
+        edited("chunk-id-2-to-26-less-1", "chunk is below 2^26", &|s| {
             let chunk = &mut s.plan.chunks[NEWEST];
             chunk.header.set("chunk", (1 << 26) - 1);
             chunk.footer.set("chunk", (1 << 26) - 1);
             s.plan.name_chunk(NEWEST);
         })
         .says(open(), "chunk 67108863 block 5 version 3"),
-        edited("footer-newline-ends-block", "a footer's 128 bytes", |s| {
+        edited("footer-newline-ends-block", "a footer's 128 bytes", &|s| {
             footer(s).newline_from = 127;
         })
         .says(open(), newest),
-        edited("footer-fields-in-another-order", "the same chunk, block and version", |s| {
+        edited("footer-fields-in-another-order", "the same chunk, block and version", &|s| {
             footer(s).fields.reverse();
         })
         .says(open(), newest),
-        edited("chunk-header-unknown-names", "unknown names are skipped", |s| {
+        edited("chunk-header-unknown-names", "unknown names are skipped", &|s| {
             newest_header(s).add("liveMax", "1c0");
         })
         .says(open(), newest),
-        edited("header-version-not-the-chunks", "with the header's chunk id", |s| {
+        edited("header-version-not-the-chunks", "with the header's chunk id", &|s| {
             s.plan.headers[0].set("version", 77);
         })
         .says(open(), newest),
-        edited("chunk-stands-behind-another", "standing is each chunk's own", |s| {
+        edited("chunk-stands-behind-another", "standing is each chunk's own", &|s| {
             s.plan.chunks[MIDDLE].footer.sum = Sum::Xor(1);
         })
         .says(open(), newest)

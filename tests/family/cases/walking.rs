@@ -23,7 +23,7 @@ fn with(places: &[u64], depth: u64, last: u64) -> State {
 fn recorded() -> Case {
     let why = "Done or a refusal is given again before anything is judged, the state unchanged";
     let nonsense = MapArgs { id: u64::MAX, kind: 9 };
-    let mut case = Case::standard("walk-recorded-answer", why, |_| {});
+    let mut case = Case::standard("walk-recorded-answer", why, &|_| {});
     for number in 1..=16 {
         let words = format!("refused {number}; state 3 {number} 1,5,9");
         case = case.says(from(nonsense, with(&[1, 5, 9], 3, number)), &words);
@@ -50,7 +50,7 @@ fn ill_formed() -> Case {
         with(&[], 0, DONE - 1),
         with(&[], 0, u64::MAX),
     ];
-    let case = Case::standard("walk-state-ill-formed", why, |_| {});
+    let case = Case::standard("walk-state-ill-formed", why, &|_| {});
     let asked = |map| ill.iter().map(|&state| from(map, state)).collect::<Vec<_>>();
     case.refuses(asked(FORCES), 12).refuses(asked(BLANK), 12).refuses(asked(BARE), 12)
 }
@@ -70,13 +70,13 @@ fn unfit() -> Case {
     ];
     let all = [&forces.map(walk)[..], &others].concat();
     let deepest = Question::Walk { map: FORCES, state: State { depth: 16, ..FRESH } };
-    Case::standard("walk-state-unfit", why, |_| {}).refuses(all, 12).refuses(vec![deepest], 12)
+    Case::standard("walk-state-unfit", why, &|_| {}).refuses(all, 12).refuses(vec![deepest], 12)
 }
 
 /// Steps through the standard store: within a leaf, to the next leaf, over two levels, to Done.
 fn steps() -> Case {
     let why = "each step descends again from the root by them and moves to the next entry";
-    Case::standard("walk-steps", why, |_| {})
+    Case::standard("walk-steps", why, &|_| {})
         .says(walk(&[]), "entry -5 8378 24; state 2 0 -")
         .says(walk(&[0, 0]), "entry -1 8403 24; state 2 0 0,1")
         .says(walk(&[0, 1]), "entry 0 8469 0; state 2 0 1")
@@ -90,7 +90,7 @@ fn steps() -> Case {
 /// "An empty leaf that is not the root refuses with 12."
 fn empty_leaf() -> Case {
     let why = "an empty leaf that is not the root refuses with 12";
-    Case::standard("empty-leaf-below-the-root", why, |s| {
+    Case::standard("empty-leaf-below-the-root", why, &|s| {
         let page = s.plan.page(s.leaves[1]);
         let PagePlan { offset, code, .. } = *page;
         *page = PagePlan { offset, code, ..PagePlan::leaf(1, 0, &[]) };
@@ -106,7 +106,7 @@ fn empty_leaf() -> Case {
 fn empty_maps() -> Case {
     let why = "its first step goes to the leftmost entry; an empty map has none";
     let done = format!("done; state 0 {DONE} -");
-    Case::standard("walk-of-empty-maps", why, |_| {})
+    Case::standard("walk-of-empty-maps", why, &|_| {})
         .says(walk_in(BLANK, &[]), &done)
         .says(walk_in(ZERO, &[]), &done)
         .says(walk_in(BARE, &[]), &done)
@@ -115,7 +115,7 @@ fn empty_maps() -> Case {
 /// A step that meets a fault keeps places and depth.
 fn moved_leaf() -> Case {
     let why = "a refusal keeps places and depth, is recorded";
-    Case::standard("walk-meets-a-fault", why, |s| s.plan.page(s.leaves[2]).check_xor = 2)
+    Case::standard("walk-meets-a-fault", why, &|s| s.plan.page(s.leaves[2]).check_xor = 2)
         .says(walk(&[1, 0]), "entry 7 8470 0; state 2 0 1,1")
         .says(walk(&[1, 1]), "refused 8; state 2 8 1,1")
         .says(walk(&[2, 0]), "refused 8; state 2 8 2")
