@@ -10,9 +10,13 @@ fn main() -> io::Result<ExitCode> {
     let arguments: Vec<String> = env::args().collect();
     let file = arguments.get(1).expect("usage: family FILE [--check]");
     let family = all();
-    let (text, differences) = text_of(&family);
-    for difference in &differences {
-        eprintln!("claimed {difference}");
+    let (text, unmet) = text_of(&family);
+    unmet.iter().for_each(|claim| eprintln!("claimed of {claim}"));
+    let mut names: Vec<&String> = family.iter().flat_map(|f| &f.1).map(|case| &case.name).collect();
+    names.sort();
+    let once = names.windows(2).all(|pair| pair[0] != pair[1]);
+    if !once {
+        eprintln!("two cases have one name");
     }
     let cases: usize = family.iter().map(|(_, cases)| cases.len()).sum();
     println!("family: {} bases, {cases} cases, {} bytes", family.len(), text.len());
@@ -23,6 +27,6 @@ fn main() -> io::Result<ExitCode> {
     if !same {
         eprintln!("{file} is not what the cases make: run `tests/run --family`");
     }
-    let good = differences.is_empty() && same;
+    let good = unmet.is_empty() && same && once;
     Ok(if good { ExitCode::SUCCESS } else { ExitCode::FAILURE })
 }

@@ -6,8 +6,9 @@
 //! why SENTENCE
 //! size BYTES              where the base's size is not kept: cut, or zeros added
 //! at PLACE HEX            bytes that differ from the base, or from zeros
-//! ask QUESTION            a question and its reply; a case lists those that differ from its
-//! is REPLY                base's, and what is claimed of it
+//! claim QUESTION          what 01 says of a case, written by hand with the case
+//! ask QUESTION            what else is asked; a case lists where it differs from its base
+//! is REPLY                the reply to either
 //! ```
 
 use std::fmt::Write;
@@ -21,51 +22,54 @@ use super::{Base, Case};
 /// Equal bytes that do not end a run of different ones.
 const BRIDGED: usize = 6;
 
+/// A question and its reply, as text.
+type Asked = (String, String);
+
 /// An image of the stored family with all its questions and replies.
 pub struct Stored {
     pub name: String,
     pub image: Vec<u8>,
-    pub asked: Vec<(String, String)>,
+    pub asked: Vec<Asked>,
 }
 
 /// The text of the family, and the hand-written claims that the model does not share.
 pub fn text_of(family: &[(Base, Vec<Case>)]) -> (String, Vec<String>) {
     let mut text = String::new();
-    let mut differences = Vec::new();
+    let mut unmet = Vec::new();
     for (base, cases) in family {
+        let replies = replies(base, &base.image);
         text += &format!("image {}\nwhy {}\n", base.name, base.why);
         text += &image_lines(&[], &base.image);
-        let replies = |image: &[u8]| -> Vec<(String, String)> {
-            base.questions.iter().map(|q| asked(image, q)).collect()
-        };
-        let of_base = replies(&base.image);
-        text += &ask_lines(&of_base);
+        text += &ask_lines("ask", &replies);
         for case in cases {
-            text += &format!("\nimage {}\nof {}\nwhy {}\n", case.name, base.name, case.why);
-            text += &image_lines(&base.image, &case.image);
-            let own: Vec<_> = case.claims.iter().map(|(q, _)| asked(&case.image, q)).collect();
-            differences.extend(unmet_claims(case, &own));
-            let others = replies(&case.image);
-            let mut listed = own;
-            let new = others.into_iter().filter(|pair| !of_base.contains(pair));
-            for pair in new {
-                if !listed.contains(&pair) {
-                    listed.push(pair);
-                }
-            }
-            text += &ask_lines(&listed);
+            let claimed: Vec<_> = case.claims.iter().map(|(q, _)| asked(&case.image, q)).collect();
+            unmet.extend(unmet_claims(case, &claimed));
+            text += &case_text(base, &replies, case, &claimed);
         }
         text.push('\n');
     }
-    (text, differences)
+    (text, unmet)
 }
 
-fn asked(image: &[u8], question: &Question) -> (String, String) {
+/// A case: what is claimed of it, and what else it answers differently from its base.
+fn case_text(base: &Base, of_base: &[Asked], case: &Case, claimed: &[Asked]) -> String {
+    let mut others = replies(base, &case.image);
+    others.retain(|pair| !of_base.contains(pair) && !claimed.contains(pair));
+    let head = format!("\nimage {}\nof {}\nwhy {}\n", case.name, base.name, case.why);
+    let image = image_lines(&base.image, &case.image);
+    [head, image, ask_lines("claim", claimed), ask_lines("ask", &others)].concat()
+}
+
+fn replies(base: &Base, image: &[u8]) -> Vec<Asked> {
+    base.questions.iter().map(|question| asked(image, question)).collect()
+}
+
+fn asked(image: &[u8], question: &Question) -> Asked {
     (question.to_string(), Reply::of_model(image, question).to_string())
 }
 
 /// A claim without `;` is about the answer alone, not about what the call wrote.
-fn unmet_claims(case: &Case, replies: &[(String, String)]) -> Vec<String> {
+fn unmet_claims(case: &Case, replies: &[Asked]) -> Vec<String> {
     let meets = |claim: &str, reply: &str| claim == reply || Some(claim) == reply.split(';').next();
     let pairs = case.claims.iter().zip(replies);
     let unmet = pairs.filter(|((_, claim), (_, reply))| !meets(claim, reply));
@@ -74,8 +78,8 @@ fn unmet_claims(case: &Case, replies: &[(String, String)]) -> Vec<String> {
         .collect()
 }
 
-fn ask_lines(pairs: &[(String, String)]) -> String {
-    pairs.iter().map(|(question, reply)| format!("ask {question}\nis {reply}\n")).collect()
+fn ask_lines(word: &str, pairs: &[Asked]) -> String {
+    pairs.iter().map(|(question, reply)| format!("{word} {question}\nis {reply}\n")).collect()
 }
 
 /// The size and the runs of bytes that make `image` from `base`.
@@ -132,7 +136,7 @@ impl Stored {
                 let (place, bytes) = rest.split_once(' ')?;
                 write(&mut self.image, place.parse().ok()?, &word_bytes(bytes)?);
             }
-            "ask" => match self.asked.iter().position(|(question, _)| question == rest) {
+            "ask" | "claim" => match self.asked.iter().position(|(question, _)| question == rest) {
                 // The reply that follows takes the place of the base's.
                 Some(known) => {
                     let pair = self.asked.remove(known);

@@ -12,6 +12,7 @@
 //! | leaf: n values | variable-size length and bytes |
 
 use super::bytes::{big_endian, part, variable};
+use super::chunk::Chunk;
 use super::image::{Span, BLOCK};
 use super::key::{key_at, well_formed, Key, Kind};
 use super::locate::Store;
@@ -75,7 +76,8 @@ pub fn read<'a>(
         return Err(OUT_OF_PLACE);
     }
     let position = Position::of(number);
-    let span = place(store, &position, left)?;
+    let chunk = store.locate(position.chunk, left)?;
+    let span = place(store, &chunk, &position)?;
     let bytes = store.image.bytes_of(span);
     let check = check_value(position.chunk, position.offset, span.length);
     if big_endian(bytes, 4, 2) != Some(check) {
@@ -86,11 +88,11 @@ pub fn read<'a>(
 
 /// "A page begins at its offset, not before the byte after the chunk header's newline nor less
 /// than 9 bytes before the footer. length (4 bytes, at least 9, within the code's bound, ending no
-/// later than the footer begins)". Location comes first.
-fn place(store: &Store, position: &Position, left: u32) -> Outcome<Span> {
-    let chunk = store.locate(position.chunk, left)?;
-    let begins = position.offset > chunk.newline;
-    if !begins || position.offset + LEAST_LENGTH > chunk.footer() {
+/// later than the footer begins)".
+fn place(store: &Store, chunk: &Chunk, position: &Position) -> Outcome<Span> {
+    let after_header = position.offset > chunk.newline;
+    let before_footer = position.offset + LEAST_LENGTH <= chunk.footer();
+    if !(after_header && before_footer) {
         return Err(OUT_OF_PLACE);
     }
     let at = chunk.block * BLOCK + position.offset;

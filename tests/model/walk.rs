@@ -61,8 +61,10 @@ pub fn step(store: &Store, map: &Map, state: &State) -> Outcome<Option<(Entry, S
 /// "Otherwise the first d places are child numbers and, last, the number of the entry last
 /// yielded; the rest are 0." With d at 0 that leaves the fresh state.
 fn well_formed(state: &State) -> bool {
-    let rest = state.places.iter().skip(state.depth.min(PLACES as u64) as usize);
-    state.depth <= PLACES as u64 && state.last == GOING_ON && rest.into_iter().all(|&p| p == 0)
+    let depth_fits = state.depth <= PLACES as u64;
+    let mut places = state.places.iter().enumerate();
+    let rest_is_zero = places.all(|(i, &place)| (i as u64) < state.depth || place == 0);
+    state.last == GOING_ON && depth_fits && rest_is_zero
 }
 
 /// A last answer that is given again before anything is judged: Done, or a number of the table.
