@@ -21,12 +21,13 @@ mod answer;
 mod keys;
 mod lines;
 mod numbers;
+mod seeded;
 
 pub use answer::answer;
 
-/// All questions, in the order of 01.
+/// All questions: chosen ones in the order of 01, then some from a seed.
 pub fn questions() -> Vec<String> {
-    [numbers::questions(), lines::questions(), keys::questions()].concat()
+    [numbers::questions(), lines::questions(), keys::questions(), seeded::questions()].concat()
 }
 
 /// A byte string as an argument.
