@@ -20,20 +20,52 @@ pub fn damage(random: &mut Random, plan: &mut Plan) {
 }
 
 fn damage_some_page(random: &mut Random, plan: &mut Plan, chunk: usize) {
-    let positions: Vec<u64> =
-        plan.chunks.iter().flat_map(|c| c.pages.iter().map(|page| page.position(c.id))).collect();
+    let known = Known::of(plan);
     let id = plan.chunks[chunk].id;
-    if let Some(page) = some(random, &mut plan.chunks[chunk].pages) {
-        match random.below(4) {
-            0 => damage_head(random, page),
-            _ if page.type_bit == 1 => damage_inner(random, page, &positions),
-            1 => {
-                empty(page);
-                let position = page.position(id);
-                record_empty(plan, position);
-            }
-            _ => damage_leaf(random, page),
+    let Some(page) = some(random, &mut plan.chunks[chunk].pages) else {
+        return;
+    };
+    match (random.below(3), page.type_bit) {
+        (0, _) => damage_head(random, page),
+        (1, _) => borrow_key(random, page, &known),
+        (_, 1) => damage_inner(random, page, &known),
+        _ if random.once_in(3) => {
+            empty(page);
+            let position = page.position(id);
+            record_empty(plan, position);
         }
+        _ => damage_leaf(random, page),
+    }
+}
+
+/// What the pages of a plan could be mistaken for.
+struct Known {
+    /// The positions of all pages.
+    positions: Vec<u64>,
+    /// The keys of all pages, each with its page's map id.
+    keys: Vec<(Vec<u8>, Vec<u8>)>,
+}
+
+impl Known {
+    fn of(plan: &Plan) -> Known {
+        let mut known = Known { positions: Vec::new(), keys: Vec::new() };
+        for chunk in &plan.chunks {
+            for page in &chunk.pages {
+                known.positions.push(page.position(chunk.id));
+                known.keys.extend(page.keys.iter().map(|key| (page.map.clone(), key.clone())));
+            }
+        }
+        known
+    }
+}
+
+/// Puts another key of the same map in a key's place.
+fn borrow_key(random: &mut Random, page: &mut PagePlan, known: &Known) {
+    let of_map = known.keys.iter().filter(|(map, _)| *map == page.map);
+    let keys: Vec<&Vec<u8>> = of_map.map(|(_, key)| key).collect();
+    if !keys.is_empty() {
+        let key = random.pick(&keys).to_vec();
+        set(some(random, &mut page.keys), key);
     }
 }
 
@@ -96,8 +128,8 @@ fn damage_head(random: &mut Random, page: &mut PagePlan) {
 }
 
 /// Children that are missing, wrong or shared; counts and separators that are off.
-fn damage_inner(random: &mut Random, page: &mut PagePlan, positions: &[u64]) {
-    let position = *random.pick(positions);
+fn damage_inner(random: &mut Random, page: &mut PagePlan, known: &Known) {
+    let position = *random.pick(&known.positions);
     let own = page.children.first().copied().unwrap_or(0);
     let count = *random.pick(&[0, 1, 2, 3, 100, (1 << 48) - 1, 1 << 48]);
     match random.below(8) {
@@ -118,17 +150,14 @@ fn damage_inner(random: &mut Random, page: &mut PagePlan, positions: &[u64]) {
 
 fn damage_leaf(random: &mut Random, page: &mut PagePlan) {
     let texts: [&[u8]; 7] = [b"", b"0", b"01", b"1", b"block:2", b"block:03", b"ffffffffffffffff"];
+    let text = measured(random.pick::<&[u8]>(&texts));
     match random.below(6) {
-        0 => set(some(random, &mut page.values), measured(random_text(&texts, page.keys.len()))),
+        0 => set(some(random, &mut page.values), text),
         1 => set(some(random, &mut page.values), variable(70_000)),
         2 => empty(page),
         3 if page.values.len() > 1 => page.values.swap(0, 1),
         _ => damage_keys(random, &mut page.keys),
     }
-}
-
-fn random_text<'a>(texts: &[&'a [u8]], by: usize) -> &'a [u8] {
-    texts[by % texts.len()]
 }
 
 /// Makes a leaf of no entries.

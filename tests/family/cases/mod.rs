@@ -1,6 +1,7 @@
 //! The cases, by 01's sections.
 
 mod asking;
+mod deep;
 mod examining;
 mod headers;
 mod locating;
@@ -34,6 +35,6 @@ pub fn all() -> Vec<(Base, Vec<Case>)> {
         (base::lone_base(), standing::cases()),
         (base::forked_base(), opening::cases()),
         (base::nested_base(), locating::nested_cases()),
-        (base::deep_base(), order::deep_cases()),
+        (base::deep_base(), deep::cases()),
     ]
 }

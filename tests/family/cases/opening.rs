@@ -18,6 +18,7 @@ pub fn cases() -> Vec<Case> {
         unnamed_copies(),
         bad_copies(),
         starts(),
+        tied_starts(),
         last_footers(),
         chains(),
         sizes(),
@@ -133,6 +134,16 @@ fn starts() -> Vec<Case> {
             names(s, MIDDLE, MIDDLE);
         })
         .says(open(), CHUNK_2),
+        edited("header-names-nothing-footer-stands", "two starts", &|s| {
+            s.plan.blocks -= 1;
+            s.plan.headers[0].set("chunk", 9);
+        })
+        .says(open(), CHUNK_3),
+    ]
+}
+
+fn tied_starts() -> Vec<Case> {
+    vec![
         edited("starts-tie", "the lower block at a tie", &|s| {
             s.plan.blocks -= 1;
             set_version(s, NEWEST, 2);
@@ -147,11 +158,6 @@ fn starts() -> Vec<Case> {
             s.plan.chunks[MIDDLE].header.set("len", 4);
         })
         .says(open(), CHUNK_2),
-        edited("header-names-nothing-footer-stands", "two starts", &|s| {
-            s.plan.blocks -= 1;
-            s.plan.headers[0].set("chunk", 9);
-        })
-        .says(open(), CHUNK_3),
     ]
 }
 

@@ -2,7 +2,7 @@
 
 use crate::build::page::{variable, PagePlan};
 use crate::build::tree::number_key;
-use crate::family::base::{blank_line, deep};
+use crate::family::base::blank_line;
 use crate::family::case::Case;
 use crate::family::questions::*;
 use crate::family::standard::{Standard, NEWEST};
@@ -12,8 +12,15 @@ use crate::subject::{MapArgs, Question};
 
 pub fn cases() -> Vec<Case> {
     let pages = [positions(), places_and_checks(), fields()];
-    let calls =
-        [calls(), asking(), walks(), examined_pages(), examined_separators(), examined_children()];
+    let calls = [
+        calls(),
+        asking(),
+        walks(),
+        examined_pages(),
+        examined_separators(),
+        examined_children(),
+        examined_depth(),
+    ];
     pages.into_iter().chain(calls).flatten().collect()
 }
 
@@ -91,6 +98,10 @@ fn places_and_checks() -> Vec<Case> {
     vec![
         leaf("length-before-check", 7, &|p| {
             p.length = Some(8);
+            p.check_xor = 1;
+        }),
+        leaf("code-before-check", 7, &|p| {
+            p.leftover = vec![0; 40];
             p.check_xor = 1;
         }),
         leaf("length-before-map-id", 7, &|p| {
@@ -256,6 +267,20 @@ fn examined_children() -> Vec<Case> {
             s.plan.page(s.leaves[0]).keys.swap(0, 1);
             s.plan.page(s.leaves[1]).check_xor = 1;
         }),
+    ]
+}
+
+fn examined_depth() -> Vec<Case> {
+    let first = "it refuses at the first fault";
+    vec![
+        Case::standard("rules-before-empty-leaf", "a page's own rules first", &|s| {
+            let page = s.plan.page(s.leaves[1]);
+            page.n = vec![0];
+            page.keys.clear();
+            page.values.clear();
+            page.leftover = vec![0];
+        })
+        .refuses(vec![examine(), walk(&[0, 1]), lookup(7)], 10),
         Case::standard("depth-first", "the examination goes depth first", &|s| {
             let (leaf, half) = (s.beam_leaves[1], s.beam_halves[1]);
             s.plan.page(leaf).check_xor = 1;
@@ -269,39 +294,4 @@ fn examined_children() -> Vec<Case> {
         })
         .refuses(vec![examine_of(BEAMS)], 9),
     ]
-}
-
-/// "depth" comes before everything else of a page. The calls that go below the root meet it.
-pub fn deep_cases() -> Vec<Case> {
-    let seventeenth = "a page at depth 17, the root being 1";
-    let order = "depth before child position 0, location, place";
-    let below = || page_calls(3, 0, &[]);
-    let last_child = |name, position: u64| {
-        let mut plan = deep(17, 1);
-        plan.chunks[0].pages[1].children[0] = position;
-        Case::new(name, order, plan.image()).refuses(below(), 11)
-    };
-    let walk_16 = Question::Walk { map: FORCES, state: State { depth: 16, ..FRESH } };
-    vec![
-        Case::new("map-17-deep", seventeenth, deep(17, 1).image())
-            .refuses(below(), 11)
-            .says(count(), "count 2")
-            .says(find("forces"), "id 1")
-            .says(walk_16, "refused 12"),
-        Case::new("metadata-17-deep", seventeenth, deep(1, 17).image()).refuses(every_call(), 11),
-        last_child("depth-before-position-0", 0),
-        last_child("depth-before-location", 99 << 38 | 1 << 16),
-        last_child("depth-before-place", 1 << 38 | 1 << 6),
-        Case::new("map-that-holds-itself", seventeenth, itself().image())
-            .refuses(below(), 11)
-            .says(count(), "count 2"),
-    ]
-}
-
-/// The root's only child is the root.
-fn itself() -> crate::build::plan::Plan {
-    let mut plan = deep(2, 1);
-    let root = plan.chunks[0].pages[1].position(1);
-    plan.chunks[0].pages[1].children[0] = root;
-    plan
 }
