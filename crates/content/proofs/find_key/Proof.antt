@@ -1,0 +1,68 @@
+use native.Mathlib.Omega.{arith}
+use mathlib.Core.Path.{_≡_, sym, _∙_, ap}
+use denote.Ref.{now}
+use Rattle.key.specs.Key.{keyOf, compareKeys}
+use Rattle.tree.specs.Asking.{findIn}
+use Rattle.content.specs.Content.{entriesIn, foundOf}
+use Rattle.content.specs.KeyLaws.{find-none, find-bad, find-same, find-less, find-stopped}
+use borrow.Author.Needs.{needs}
+use Rattle.content.proofs.find_key.Statement.{statement}
+use Rattle.content.proofs.find_key.Tie as tie
+
+abbrev Inv-loop : tie.InvT-loop
+Inv-loop s kind n keys values key left₀ i₀ v₀ left i v =
+    findIn compareKeys (keyOf kind key) (entriesIn s kind left i v) ≡ findIn compareKeys (keyOf kind key) (entriesIn s kind n keys values)
+
+abbrev μ-loop : tie.MeasureT-loop
+μ-loop s kind n keys values key left₀ i₀ v₀ left i v = left
+
+returns : tie.Need-returns Inv-loop μ-loop
+returns c =
+    let l = c .before .before .before .before .loop in
+    let a = c .before .before .before .before .before .before .before .args in
+    ap foundOf (sym (find-stopped (now (a .s)) (a .kind) (keyOf (a .kind) (now (a .key))) (l .left) (l .i) (l .v) (omega arith) (sym (c .before .before .probe-key .ensures) ∙ c .enum-told .given .1)) ∙ l .inv)
+
+returns-2 : tie.Need-returns-2 Inv-loop μ-loop
+returns-2 c =
+    let l = c .before .before .before .before .before .before .before .before .loop in
+    let a = c .before .before .before .before .before .before .before .before .before .before .before .args in
+    ap foundOf (sym (find-bad (now (a .s)) (a .kind) (keyOf (a .kind) (now (a .key))) (l .left) (l .i) (l .v) (sym (c .before .before .item-at .ensures) ∙ c .enum-told2 .given .1)) ∙ l .inv)
+
+returns-3 : tie.Need-returns-3 Inv-loop μ-loop
+returns-3 c =
+    let l = c .before .before .before .before .before .before .before .before .before .before .loop in
+    let a = c .before .before .before .before .before .before .before .before .before .before .before .before .before .args in
+    sym (find-same (now (a .s)) (a .kind) (keyOf (a .kind) (now (a .key))) (l .left) (l .i) (l .v) (omega arith) (sym (c .before .before .before .before .before .before .before .before .probe-key .ensures) ∙ c .before .before .before .before .before .before .p .given .1) (sym (c .before .before .before .before .item-at .ensures) ∙ c .before .before .it .given .1) (c .if1 .taken)) ∙ ap foundOf (l .inv)
+
+loop-again : tie.Need-loop-again Inv-loop μ-loop
+loop-again c =
+    let l = c .before .before .before .before .before .before .before .before .before .before .loop in
+    let a = c .before .before .before .before .before .before .before .before .before .before .before .before .before .args in
+    sym (find-less (now (a .s)) (a .kind) (keyOf (a .kind) (now (a .key))) (l .left) (l .i) (l .v) (omega arith) (sym (c .before .before .before .before .before .before .before .before .probe-key .ensures) ∙ c .before .before .before .before .before .before .p .given .1) (sym (c .before .before .before .before .item-at .ensures) ∙ c .before .before .it .given .1) (c .if1 .left)) ∙ l .inv
+
+returns-4 : tie.Need-returns-4 Inv-loop μ-loop
+returns-4 c =
+    let l = c .before .loop in
+    let a = c .before .before .before .before .args in
+    ap foundOf (sym (find-none (now (a .s)) (a .kind) (keyOf (a .kind) (now (a .key))) (l .left) (l .i) (l .v) (omega arith)) ∙ l .inv)
+
+pub find-key-spec : {M : Type 1} → statement M
+find-key-spec =
+    tie.close
+    (tie.spec
+    Inv-loop
+    μ-loop
+    (λ c. search needs)
+    (λ c κs. search needs)
+    (λ c. search needs)
+    (λ c. search needs)
+    returns
+    (λ c κs. search needs)
+    (λ c. search needs)
+    (λ c. search needs)
+    returns-2
+    returns-3
+    (λ c. search needs)
+    (λ c. search needs)
+    loop-again
+    returns-4)

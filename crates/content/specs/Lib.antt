@@ -1,0 +1,4 @@
+pub mod Content
+pub mod KeyLaws
+pub mod NumberLaws
+pub mod PickLaws

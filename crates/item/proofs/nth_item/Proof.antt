@@ -1,0 +1,36 @@
+use native.Mathlib.Omega.{arith}
+use mathlib.Core.Path.{sym, _∙_, ap}
+use denote.Ref.{now}
+use Rattle.item.specs.Item.{items, spotOf}
+use Rattle.item.specs.StepLaws.{upTo-past}
+use Rattle.item.specs.ItemLaws.{nth-stuck, nth-past}
+use borrow.Author.Needs.{needs}
+use Rattle.item.proofs.nth_item.Statement.{statement}
+use Rattle.item.proofs.nth_item.Tie as tie
+
+returns : tie.Need-returns
+returns c =
+    let a = c .before .before .args in
+    sym (upTo-past (items (now (a .s)) (a .form)) (a .n) (a .k) (a .at) (omega arith))
+
+returns-2 : tie.Need-returns-2
+returns-2 c =
+    let a = c .before .before .before .before .before .args in
+    sym (nth-stuck (now (a .s)) (a .form) (a .n) (a .at) (a .k) (omega arith) (sym (c .before .before .skip-items .ensures) ∙ c .enum-told .given .1))
+
+returns-3 : tie.Need-returns-3
+returns-3 c =
+    let a = c .before .before .before .before .before .before .before .args in
+    ap spotOf (c .item-at .ensures) ∙ sym (nth-past (now (a .s)) (a .form) (a .n) (a .at) (a .k) (omega arith) (sym (c .before .before .before .before .skip-items .ensures) ∙ c .before .before .a .given .1))
+
+pub nth-item-spec : {M : Type 1} → statement M
+nth-item-spec =
+    tie.close
+    (tie.spec
+    returns
+    (λ c κs. search needs)
+    (λ c. search needs)
+    (λ c. search needs)
+    returns-2
+    (λ c κs. search needs)
+    returns-3)

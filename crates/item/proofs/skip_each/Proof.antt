@@ -1,0 +1,48 @@
+use native.Mathlib.Omega.{arith}
+use mathlib.Core.Path.{_≡_, sym, _∙_}
+use denote.Ref.{now}
+use Rattle.item.specs.Item.{skipped}
+use Rattle.item.specs.ItemLaws.{skipped-none, skipped-more, skipped-bad}
+use borrow.Author.Needs.{needs}
+use Rattle.item.proofs.skip_each.Statement.{statement}
+use Rattle.item.proofs.skip_each.Tie as tie
+
+abbrev Inv-loop : tie.InvT-loop
+Inv-loop s form n at left₀ i₀ left i = skipped s form left i ≡ skipped s form n at
+
+abbrev μ-loop : tie.MeasureT-loop
+μ-loop s form n at left₀ i₀ left i = left
+
+returns : tie.Need-returns Inv-loop μ-loop
+returns c =
+    let l = c .before .before .before .before .loop in
+    let a = c .before .before .before .before .before .before .args in
+    sym (skipped-bad (now (a .s)) (a .form) (l .left) (l .i) (omega arith) (sym (c .before .before .item-at .ensures) ∙ c .enum-told .given .1)) ∙ l .inv
+
+loop-again : tie.Need-loop-again Inv-loop μ-loop
+loop-again c =
+    let l = c .before .before .before .before .before .loop in
+    let a = c .before .before .before .before .before .before .before .args in
+    sym (skipped-more (now (a .s)) (a .form) (l .left) (l .i) (omega arith) (sym (c .before .before .before .item-at .ensures) ∙ c .before .it .given .1)) ∙ l .inv
+
+returns-2 : tie.Need-returns-2 Inv-loop μ-loop
+returns-2 c =
+    let l = c .before .loop in
+    let a = c .before .before .before .args in
+    sym (skipped-none (now (a .s)) (a .form) (l .left) (l .i) (omega arith)) ∙ l .inv
+
+pub skip-each-spec : {M : Type 1} → statement M
+skip-each-spec =
+    tie.close
+    (tie.spec
+    Inv-loop
+    μ-loop
+    (λ c. search needs)
+    (λ c κs. search needs)
+    (λ c. search needs)
+    (λ c. search needs)
+    returns
+    (λ c. search needs)
+    (λ c. search needs)
+    loop-again
+    returns-2)

@@ -1,0 +1,113 @@
+-- Laws of recorded counts: one step of summing several, and one count by its number.
+--
+--   countedFrom s n i sum    the sum of n more counts from place i on, with the sum so far
+use Prim.Native.Nat.{ℕ, zero, suc, _+_, _-_, _≤_, _<_}
+use mathlib.Core.Path.{_≡_, refl, _∙_, ap}
+use mathlib.Core.List.{List}
+use mathlib.Core.Option.{Option, none, some}
+use native.Mathlib.Omega.{arith}
+use borrow.Author.Tests.{lt-ltb, le-ltb}
+use lib.ListN.{getD, getElem?}
+use Rattle.numeral.specs.declared.Numeral.the-variants.{Read, Bad}
+use Rattle.numeral.specs.Var.{varAt}
+use Rattle.item.specs.declared.Counted.{Counted}
+use Rattle.item.specs.declared.Counted.the-variants.{Sum, Stuck}
+use Rattle.item.specs.Step.{Step, got, bad, onStep, after, upTo}
+use Rattle.item.specs.StepLaws.{onSome, getD-elem, after-more, after-bad, upTo-past, upTo-nth, itemOf}
+use Rattle.item.specs.Item.{countLimit, countAt, countedOf, counted}
+
+unfoldable pub countedFrom : List ℕ → ℕ → ℕ → ℕ → Counted
+countedFrom s n i sum = countedOf (after (countAt s) n (i, sum))
+
+module _ (s : List ℕ) where
+  -- ## One count
+  pub count-bad : (i sum : ℕ) → varAt countLimit s i ≡ Bad → countAt s (i, sum) ≡ bad
+  unfolding countAt
+  count-bad i sum e = rw e
+
+  module _ (i sum : ℕ) {v next : ℕ} (e : varAt countLimit s i ≡ Read v next) where
+    pub count-at : sum + v < countLimit → countAt s (i, sum) ≡ got v (next, sum + v)
+    unfolding countAt
+    count-at h = rw (e, lt-ltb (sum + v) countLimit h)
+
+    -- "the count that takes it there can't be read"
+    pub count-over : countLimit ≤ sum + v → countAt s (i, sum) ≡ bad
+    unfolding countAt
+    count-over h = rw (e, le-ltb (sum + v) countLimit h)
+
+  -- ## One step of a sum
+  pub counted-from : (n i : ℕ) → countedFrom s n i 0 ≡ counted s n i
+  unfolding countedFrom counted
+  counted-from n i = refl
+
+  pub counted-none : (n i sum : ℕ) → n ≤ 0 → countedFrom s n i sum ≡ Sum sum i
+  unfolding countedFrom after
+  counted-none zero i sum h = refl
+  counted-none (suc n) i sum h = absurd (omega arith)
+
+  module _ (n i sum : ℕ) (h : 0 < n) where
+    pub counted-more : {v next : ℕ} → varAt countLimit s i ≡ Read v next → sum + v < countLimit
+        → countedFrom s n i sum ≡ countedFrom s (n - 1) next (sum + v)
+    unfolding countedFrom
+    counted-more e k = ap countedOf (after-more (countAt s) n (i, sum) h (count-at i sum e k))
+
+    pub counted-over : {v next : ℕ} → varAt countLimit s i ≡ Read v next → countLimit ≤ sum + v → countedFrom s n i sum ≡ Stuck
+    unfolding countedFrom
+    counted-over e k = ap countedOf (after-bad (countAt s) n (i, sum) h (count-over i sum e k))
+
+    pub counted-bad : varAt countLimit s i ≡ Bad → countedFrom s n i sum ≡ Stuck
+    unfolding countedFrom
+    counted-bad e = ap countedOf (after-bad (countAt s) n (i, sum) h (count-bad i sum e))
+
+-- ## A count by its number
+module _ (s : List ℕ) (n at k : ℕ) where
+  -- the count at a cursor; 0 where there is none
+  countOf : ℕ × ℕ → ℕ
+  countOf c = onStep (countAt s c) 0 (λ a d. a)
+
+  nth-count : k < n → getD (upTo (countAt s) n (at, 0)) k 0 ≡ onSome (after (countAt s) k (at, 0)) 0 countOf
+  unfolding itemOf countOf
+  nth-count h =
+      getD-elem (upTo (countAt s) n (at, 0)) k 0
+      ∙ ap (λ (o : Option ℕ). onSome o 0 (λ a. a)) (upTo-nth (countAt s) n k (at, 0) h)
+      ∙ go (after (countAt s) k (at, 0))
+    where
+      by : (t : Step ℕ (ℕ × ℕ)) → onSome (onStep t none (λ a d. some a)) 0 (λ a. a) ≡ onStep t 0 (λ a d. a)
+      by (got a d) = refl
+      by bad = refl
+
+      go : (o : Option (ℕ × ℕ)) → onSome (onSome o none (itemOf (countAt s))) 0 (λ a. a) ≡ onSome o 0 countOf
+      go (some c) = by (countAt s c)
+      go none = refl
+
+  pub nth-count-past : n ≤ k → getD (upTo (countAt s) n (at, 0)) k 0 ≡ 0
+  nth-count-past h = getD-elem (upTo (countAt s) n (at, 0)) k 0 ∙ rw (upTo-past (countAt s) n k (at, 0) h)
+
+  pub nth-count-stuck : k < n → counted s k at ≡ Stuck → getD (upTo (countAt s) n (at, 0)) k 0 ≡ 0
+  unfolding counted
+  nth-count-stuck h e = nth-count h ∙ go (after (countAt s) k (at, 0)) e
+    where
+      go : (o : Option (ℕ × ℕ)) → countedOf o ≡ Stuck → onSome o 0 countOf ≡ 0
+      go (some c) q = absurd (let z : _≡_ {A = ℕ} 0 1 = cc in omega arith)
+      go none q = refl
+
+  module _ {total i : ℕ} (h : k < n) (e : counted s k at ≡ Sum total i) where
+    nth-count-sum : getD (upTo (countAt s) n (at, 0)) k 0 ≡ onStep (countAt s (i, total)) 0 (λ a d. a)
+    unfolding counted countOf
+    nth-count-sum = nth-count h ∙ go (after (countAt s) k (at, 0)) e
+      where
+        go : (o : Option (ℕ × ℕ)) → countedOf o ≡ Sum total i → onSome o 0 countOf ≡ countOf (i, total)
+        go (some (j, m)) q =
+            let f : j ≡ i = cc in
+            let g : m ≡ total = cc in
+            rw (f, g)
+        go none q = absurd (let z : _≡_ {A = ℕ} 0 1 = cc in omega arith)
+
+    pub nth-count-bad : varAt countLimit s i ≡ Bad → getD (upTo (countAt s) n (at, 0)) k 0 ≡ 0
+    nth-count-bad b = nth-count-sum ∙ rw (count-bad s i total b)
+
+    pub nth-count-over : {v next : ℕ} → varAt countLimit s i ≡ Read v next → countLimit ≤ total + v → getD (upTo (countAt s) n (at, 0)) k 0 ≡ 0
+    nth-count-over r l = nth-count-sum ∙ rw (count-over s i total r l)
+
+    pub nth-count-at : {v next : ℕ} → varAt countLimit s i ≡ Read v next → total + v < countLimit → getD (upTo (countAt s) n (at, 0)) k 0 ≡ v
+    nth-count-at r l = nth-count-sum ∙ rw (count-at s i total r l)

@@ -1,0 +1,116 @@
+-- Laws of a page's items: one step of passing several, one item by its number, and where an item lies.
+use Prim.Native.Nat.{ℕ, zero, suc, _+_, _*_, _-_, _≤_, _<_}
+use mathlib.Core.Path.{_≡_, refl, _∙_, ap}
+use mathlib.Core.List.{List}
+use mathlib.Core.Option.{Option, none, some}
+use mathlib.Core.Bool.{Bool, true, false}
+use native.Mathlib.Omega.{arith}
+use borrow.Author.Tests.{le-leb, lt-leb, leb-true, leb-false}
+use lib.Dec.{leb}
+use lib.ListN.{length, getElem?}
+use Rattle.key.specs.declared.Kind.the-variants.{Number, Text}
+use Rattle.key.specs.declared.sized.Sized.{Sized}
+use Rattle.key.specs.declared.sized.Sized.the-variants.{At, Bad}
+use Rattle.key.specs.Key.{keyAt}
+use Rattle.key.specs.SizedLaws.{Lies, sized-lies, key-lies}
+use Rattle.item.specs.declared.Form.{Form}
+use Rattle.item.specs.declared.Form.the-variants as form
+use Rattle.item.specs.declared.Skip.the-variants.{Past, Stuck}
+use Rattle.item.specs.Step.{Step, got, bad, onStep, after, upTo}
+use Rattle.item.specs.StepLaws.{onSome, after-more, after-bad, upTo-length, upTo-nth, itemOf}
+use Rattle.item.specs.Item.{Spot, onSized, itemAt, items, valueLimit, spotOf, skipOf, skipped}
+
+-- ## One step of a form
+module _ (s : List ℕ) (f : Form) where
+  pub items-at : (i : ℕ) {at len next : ℕ} → itemAt s f i ≡ At at len next → items s f i ≡ got (record { at = at; len = len }) next
+  unfolding items
+  items-at i e = rw e
+
+  pub items-bad : (i : ℕ) → itemAt s f i ≡ Bad → items s f i ≡ bad
+  unfolding items
+  items-bad i e = rw e
+
+  pub skipped-none : (n i : ℕ) → n ≤ 0 → skipped s f n i ≡ Past i
+  unfolding skipped after
+  skipped-none zero i h = refl
+  skipped-none (suc n) i h = absurd (omega arith)
+
+  pub skipped-more : (n i : ℕ) {at len next : ℕ} → 0 < n → itemAt s f i ≡ At at len next → skipped s f n i ≡ skipped s f (n - 1) next
+  unfolding skipped
+  skipped-more n i h e = ap skipOf (after-more (items s f) n i h (items-at i e))
+
+  pub skipped-bad : (n i : ℕ) → 0 < n → itemAt s f i ≡ Bad → skipped s f n i ≡ Stuck
+  unfolding skipped
+  skipped-bad n i h e = ap skipOf (after-bad (items s f) n i h (items-bad i e))
+
+  -- ## All of them
+  -- where n items can be passed, n are there
+  pub skipped-length : (n i : ℕ) {next : ℕ} → skipped s f n i ≡ Past next → length (upTo (items s f) n i) ≡ n
+  unfolding skipped
+  skipped-length n i {next} e = go (after (items s f) n i) refl e
+    where
+      go : (o : Option ℕ) → after (items s f) n i ≡ o → skipOf o ≡ Past next → length (upTo (items s f) n i) ≡ n
+      go (some d) q h = upTo-length (items s f) n i q
+      go none q h = absurd (let z : _≡_ {A = ℕ} 0 1 = cc in omega arith)
+
+-- ## An item by its number
+module _ (s : List ℕ) (f : Form) (n at k : ℕ) (h : k < n) where
+  pub nth-stuck : skipped s f k at ≡ Stuck → getElem? (upTo (items s f) n at) k ≡ none
+  unfolding skipped
+  nth-stuck e = upTo-nth (items s f) n k at h ∙ go (after (items s f) k at) e
+    where
+      go : (o : Option ℕ) → skipOf o ≡ Stuck → onSome o none (itemOf (items s f)) ≡ none
+      go (some j) q = absurd (let z : _≡_ {A = ℕ} 0 1 = cc in omega arith)
+      go none q = refl
+
+  pub nth-past : {i : ℕ} → skipped s f k at ≡ Past i → getElem? (upTo (items s f) n at) k ≡ spotOf (itemAt s f i)
+  unfolding skipped items itemOf
+  nth-past {i} e = upTo-nth (items s f) n k at h ∙ go (after (items s f) k at) e ∙ by (itemAt s f i)
+    where
+      go : (o : Option ℕ) → skipOf o ≡ Past i → onSome o none (itemOf (items s f)) ≡ itemOf (items s f) i
+      go (some j) q = ap (itemOf (items s f)) cc
+      go none q = absurd (let z : _≡_ {A = ℕ} 0 1 = cc in omega arith)
+
+      by : (it : Sized) → onStep (onSized it bad (λ at len next. got (record { at = at; len = len }) next)) none (λ a d. some a) ≡ spotOf it
+      by (At at len next) = refl
+      by Bad = refl
+
+-- ## Words lie one after another
+module _ (s : List ℕ) where
+  pub word-fits : (i : ℕ) → i + 8 ≤ length s → items s form.Word i ≡ got (record { at = i; len = 8 }) (i + 8)
+  unfolding items itemAt keyAt
+  word-fits i h = rw (le-leb (i + 8) (length s) h)
+
+  pub word-bad : (i : ℕ) → length s < i + 8 → items s form.Word i ≡ bad
+  unfolding items itemAt keyAt
+  word-bad i h = rw (lt-leb (i + 8) (length s) h)
+
+  after-words : (n i : ℕ) → i + 8 * n ≤ length s → after (items s form.Word) n i ≡ some (i + 8 * n)
+  unfolding after
+  after-words zero i h = ap some (omega arith)
+  after-words (suc n) i h = rw (word-fits i (omega arith)) (after-words n (i + 8) (omega arith) ∙ ap some (omega arith))
+
+  after-words-none : (n i : ℕ) → 0 < n → length s < i + 8 * n → after (items s form.Word) n i ≡ none
+  unfolding after
+  after-words-none zero i h k = absurd (omega arith)
+  after-words-none (suc n) i h k = go (leb (i + 8) (length s)) refl (after-words-none n (i + 8))
+    where
+      go : (t : Bool) → leb (i + 8) (length s) ≡ t → (0 < n → length s < i + 8 + 8 * n → after (items s form.Word) n (i + 8) ≡ none)
+          → after (items s form.Word) (suc n) i ≡ none
+      go true e ih = let l = leb-true (i + 8) (length s) e in rw (word-fits i l) (ih (omega arith) (omega arith))
+      go false e ih = rw (word-bad i (leb-false (i + 8) (length s) e))
+
+  pub words-past : (n i : ℕ) → i + 8 * n ≤ length s → skipped s form.Word n i ≡ Past (i + 8 * n)
+  unfolding skipped
+  words-past n i h = ap skipOf (after-words n i h)
+
+  pub words-stuck : (n i : ℕ) → 0 < n → length s < i + 8 * n → skipped s form.Word n i ≡ Stuck
+  unfolding skipped
+  words-stuck n i h k = ap skipOf (after-words-none n i h k)
+
+-- ## Where an item lies
+pub item-lies : (s : List ℕ) (f : Form) (i : ℕ) {at n next : ℕ} → itemAt s f i ≡ At at n next → Lies s at n next
+unfolding itemAt
+item-lies s form.Word i e = key-lies Number s i e
+item-lies s form.Text i e = key-lies Text s i e
+item-lies s form.Bytes i e = sized-lies valueLimit s i e
