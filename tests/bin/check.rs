@@ -13,7 +13,7 @@ use vihtumora_tests::subject::Judge;
 
 /// The random images of the short run.
 const SEED: u64 = 1;
-const IMAGES: u64 = 2000;
+const IMAGES: u64 = 3000;
 /// Progress is shown after so many images of a long run.
 const STEP: u64 = 1000;
 

@@ -1,8 +1,10 @@
-//! The stored family of damaged images: each question's reply against the stored one.
+//! The stored family of damaged images: each question's reply against the stored one, and each
+//! examination against the declarative check.
 
 use std::path::Path;
 use std::{fs, io};
 
+use super::properties::examination_agrees;
 use crate::family::stored::parse;
 use crate::subject::Judge;
 
@@ -11,6 +13,9 @@ pub fn check(judge: &mut Judge, file: &Path) -> io::Result<()> {
     judge.claim(images.is_some(), || "the stored family can't be read".to_string());
     for image in images.unwrap_or_default() {
         image.check(judge);
+        for map in image.examined() {
+            examination_agrees(judge, &image.image, map, &image.name);
+        }
     }
     Ok(())
 }

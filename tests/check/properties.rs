@@ -79,13 +79,11 @@ fn check_map(
 ) -> Option<Entries> {
     let what = format!("{what}, map {}", map.id);
     let examined = judge.ask(image, &Question::Examine { map });
+    let sound = examination_agrees(judge, image, map, &what);
     let Ok((opened, found)) = ask::map(image, map.id, map.kind) else {
         maps.not_found += 1;
         return None;
     };
-    let sound = sound::sound(&opened, &found);
-    let passes = matches!(examined.answer, Answer::Report(_));
-    judge.claim(sound == passes, || format!("{what}: sound is {sound}, but {examined}"));
     let reached = reached(&opened, &found);
     if walkable(&reached) {
         check_walk(judge, image, map, &reached, &what);
@@ -100,6 +98,15 @@ fn check_map(
     let entries: Entries = reached.entry_list().map(|entry| contents(image, &entry)).collect();
     sweep(judge, image, &Expected { map, entries: &entries }, &what);
     Some(entries)
+}
+
+/// Whether a map is sound, after the examination was held against it. What is no map is not.
+pub fn examination_agrees(judge: &mut Judge, image: &[u8], map: MapArgs, what: &str) -> bool {
+    let found = ask::map(image, map.id, map.kind);
+    let sound = found.is_ok_and(|(opened, found)| sound::sound(&opened, &found));
+    let passes = ask::examine(image, map.id, map.kind).is_ok();
+    judge.claim(sound == passes, || format!("{what}: sound is {sound}, the examination {passes}"));
+    sound
 }
 
 /// All reached pages meet the rules, and no leaf but the root is empty.

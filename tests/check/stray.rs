@@ -16,9 +16,12 @@ pub fn questions(random: &mut Random, map: MapArgs, built: &Entries) -> Vec<Ques
         all.push(Question::Walk { map, state: some_state(random) });
     }
     if random.once_in(4) {
-        let strange = strange_map(random, map);
-        all.push(Question::Count { map: strange });
-        all.push(Question::Examine { map: strange });
+        let map = strange_map(random, map);
+        all.push(Question::Count { map });
+        all.push(Question::Examine { map });
+        all.push(Question::Index { map, at: 0 });
+        all.push(Question::Walk { map, state: FRESH });
+        all.push(Question::Find { name: some_name(random) });
     }
     all
 }
@@ -53,6 +56,11 @@ fn some_state(random: &mut Random) -> State {
         _ => {}
     }
     state
+}
+
+/// Short names, some of them with bytes that no name has.
+fn some_name(random: &mut Random) -> Vec<u8> {
+    (0..random.below(4)).map(|_| 30 + random.below(98) as u8).collect()
 }
 
 /// The other kind, another id, or neither.

@@ -14,7 +14,7 @@
 use std::fmt::Write;
 
 use crate::build::plan::write;
-use crate::subject::{Judge, Question, Reply};
+use crate::subject::{Judge, MapArgs, Question, Reply};
 use crate::vectors::{bytes_word, word_bytes};
 
 use super::{Base, Case};
@@ -148,6 +148,16 @@ impl Stored {
             _ => return None,
         }
         Some(())
+    }
+
+    /// The maps that are examined among its questions.
+    pub fn examined(&self) -> Vec<MapArgs> {
+        let questions = self.asked.iter().filter_map(|(question, _)| Question::parse(question));
+        let map = |question| match question {
+            Question::Examine { map } => Some(map),
+            _ => None,
+        };
+        questions.filter_map(map).collect()
     }
 
     /// Asks all its questions and holds the replies against the stored ones.
