@@ -70,7 +70,7 @@ fn long_run(judge: &mut Judge, seed: u64, images: u64) -> bool {
     let start = Instant::now();
     for number in 0..images {
         random_image(judge, &mut maps, seed, number);
-        if (number + 1) % STEP == 0 || number + 1 == images {
+        if (number + 1).is_multiple_of(STEP) || number + 1 == images {
             let rate = (number + 1) as f64 / start.elapsed().as_secs_f64();
             println!("{} of {images} images, {rate:.0} images per second", number + 1);
         }

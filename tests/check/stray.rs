@@ -37,7 +37,7 @@ fn some_key(random: &mut Random, kind: u64, built: &Entries) -> Vec<u8> {
 
 fn some_index(random: &mut Random, built: &Entries) -> u64 {
     match random.below(8) {
-        0 => random.next(),
+        0 => random.draw(),
         _ => random.below(built.len() as u64 + 2),
     }
 }
@@ -50,9 +50,9 @@ fn some_state(random: &mut Random) -> State {
         state.places[place] = random.below(3);
     }
     match random.below(8) {
-        0 => state.depth = random.next() >> random.below(64),
+        0 => state.depth = random.draw() >> random.below(64),
         1 => state.last = *random.pick(&[1, 12, 16, 17, 254, DONE, u64::MAX]),
-        2 => state.places[random.below(PLACES as u64) as usize] = random.next(),
+        2 => state.places[random.below(PLACES as u64) as usize] = random.draw(),
         _ => {}
     }
     state
@@ -67,7 +67,7 @@ fn some_name(random: &mut Random) -> Vec<u8> {
 fn strange_map(random: &mut Random, map: MapArgs) -> MapArgs {
     match random.below(3) {
         0 => MapArgs { kind: 1 - map.kind, ..map },
-        1 => MapArgs { id: random.next() >> random.below(64), ..map },
+        1 => MapArgs { id: random.draw() >> random.below(64), ..map },
         _ => MapArgs { kind: random.below(4), ..map },
     }
 }

@@ -1,11 +1,9 @@
 //! The least store: three blocks, one chunk, `forces` as one leaf, and the metadata as another.
 
-use crate::build::page::{smallest_code, variable};
+use super::standard::{numbered, METADATA_PLAN};
+use crate::build::page::{measured, smallest_code, variable, PagePlan};
 use crate::build::plan::{PageRef, Plan};
 use crate::build::tree::MapPlan;
-
-use super::standard::{numbered, METADATA_PLAN};
-use crate::build::page::measured;
 
 pub struct Tiny {
     pub plan: Plan,
@@ -22,11 +20,11 @@ pub fn tiny_with(newline: u64, len: u64) -> Tiny {
     plan.newline = newline;
     plan.add_chunk(1, len, 1);
     plan.name_chunk(0);
+    // Room for a leaf that grows; its code is the smallest all the same.
+    plan.chunks[0].slack = 2048;
     let leaf = MapPlan { id: 1, kind: 0 }.leaf(&mut plan, 0, &numbered(&[3, 4])).page;
-    // Room for a leaf that grows.
-    plan.chunks[0].slack = 1024;
+    plan.page(leaf).code = smallest_code(plan.page(leaf).true_length());
     let entries = [(b"name.forces".to_vec(), b"1".to_vec()), (b"root.1".to_vec(), vec![b'f'; 16])];
-    plan.put(0, crate::build::page::PagePlan::leaf(9, 0, &[]));
     let metadata = METADATA_PLAN.leaf(&mut plan, 0, &entries).page;
     Tiny { plan, leaf, metadata, root: None }
 }
@@ -36,7 +34,7 @@ pub fn tiny() -> Tiny {
 }
 
 impl Tiny {
-    pub fn leaf(&mut self) -> &mut crate::build::page::PagePlan {
+    pub fn leaf(&mut self) -> &mut PagePlan {
         self.plan.page(self.leaf)
     }
 

@@ -24,7 +24,7 @@ pub fn key(random: &mut Random, kind: u64) -> Vec<u8> {
 fn number(random: &mut Random) -> i64 {
     match random.below(8) {
         0 => *random.pick(&[i64::MIN, i64::MIN + 1, -1, 0, 1, i64::MAX - 1, i64::MAX]),
-        1 => random.next() as i64,
+        1 => random.draw() as i64,
         _ => random.below(60) as i64 - 30,
     }
 }
@@ -46,5 +46,5 @@ fn value(random: &mut Random) -> Vec<u8> {
         5..=8 => 24,
         _ => random.below(12),
     };
-    (0..length).map(|_| random.next() as u8).collect()
+    (0..length).map(|_| random.draw() as u8).collect()
 }

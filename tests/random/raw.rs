@@ -32,7 +32,7 @@ fn changed(random: &mut Random, byte: u8) -> u8 {
         0 => byte ^ 1 << random.below(8),
         1 => byte.wrapping_add(1),
         2 => byte.wrapping_sub(1),
-        _ => random.next() as u8,
+        _ => random.draw() as u8,
     }
 }
 
@@ -57,7 +57,7 @@ fn move_block(random: &mut Random, image: &mut [u8]) {
 fn overwrite(random: &mut Random, image: &mut [u8]) {
     let at = random.below(image.len() as u64);
     let mask = if random.once_in(2) { 0 } else { 0xff };
-    let run: Vec<u8> = (0..random.range(1, 64)).map(|_| random.next() as u8 & mask).collect();
+    let run: Vec<u8> = (0..random.range(1, 64)).map(|_| random.draw() as u8 & mask).collect();
     write(image, at, &run);
 }
 

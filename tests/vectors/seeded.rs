@@ -12,8 +12,8 @@ pub fn questions() -> Vec<String> {
         let length = random.below(90);
         out.push(format!("sum {}", bytes_word(&bytes(&mut random, length))));
         out.push(format!("fill {:x} {:x}", random.below(256), random.below(0x4000)));
-        out.push(format!("position {:x}", random.next() >> random.below(64)));
-        let [chunk, offset, length] = [26, 32, 32].map(|bits| random.next() >> (64 - bits));
+        out.push(format!("position {:x}", random.draw() >> random.below(64)));
+        let [chunk, offset, length] = [26, 32, 32].map(|bits| random.draw() >> (64 - bits));
         out.push(format!("check {chunk:x} {offset:x} {length:x}"));
         out.push(variable(&mut random));
         out.push(format!("key 1 0 {}", bytes_word(&key(&mut random))));
@@ -22,7 +22,7 @@ pub fn questions() -> Vec<String> {
 }
 
 fn bytes(random: &mut Random, length: u64) -> Vec<u8> {
-    (0..length).map(|_| random.next() as u8).collect()
+    (0..length).map(|_| random.draw() as u8).collect()
 }
 
 /// Mostly bytes that go on, and then one that ends.

@@ -4,6 +4,7 @@ use crate::build::line::{LinePlan, Sum};
 use crate::family::base::single;
 use crate::family::case::{join, Case};
 use crate::family::questions::*;
+use crate::model::fletcher::fletcher;
 
 pub fn cases() -> Vec<Case> {
     join(vec![fields(), fletchers(), lines(), accepted()])
@@ -50,12 +51,12 @@ fn fletchers() -> Vec<Case> {
     vec![
         refused("header-sum-wrong", "a right fletcher", &|l| l.sum = Sum::Xor(1)),
         refused("header-sum-first-and-second-swapped", "second sum times 65536 plus first", &|l| {
-            let sum = crate::model::fletcher::fletcher(&text_before_sum(l));
+            let sum = fletcher(&text_before_sum(l));
             l.sum = Sum::Xor(sum ^ (sum >> 16 | (sum & 0xffff) << 16));
         }),
         refused("header-without-sum", ends, &|l| l.sum = Sum::None),
         refused("header-sum-not-last", ends, &|l| {
-            let sum = crate::model::fletcher::fletcher(&text_before_sum(l));
+            let sum = fletcher(&text_before_sum(l));
             l.sum = Sum::None;
             l.set("fletcher", sum);
             l.set("created", 1);
@@ -64,8 +65,8 @@ fn fletchers() -> Vec<Case> {
         refused("header-odd-byte-counted", odd, &|l| {
             make_odd(l);
             let text = text_before_sum(l);
-            let counted = crate::model::fletcher::fletcher(&[&text[..], &[0]].concat());
-            l.sum = Sum::Xor(crate::model::fletcher::fletcher(&text) ^ counted);
+            let counted = fletcher(&[&text[..], &[0]].concat());
+            l.sum = Sum::Xor(fletcher(&text) ^ counted);
         }),
         refused("header-of-the-documents", "that copy isn't good", &|l| {
             l.fields.clear();
@@ -89,10 +90,10 @@ fn text_before_sum(line: &LinePlan) -> Vec<u8> {
 
 /// Gives the text before the sum an odd length.
 fn make_odd(line: &mut LinePlan) {
-    if text_before_sum(line).len() % 2 == 0 {
+    if text_before_sum(line).len().is_multiple_of(2) {
         line.add("o", "11");
     }
-    if text_before_sum(line).len() % 2 == 0 {
+    if text_before_sum(line).len().is_multiple_of(2) {
         line.set_text("o", "1");
     }
 }

@@ -7,6 +7,7 @@ use crate::family::questions::*;
 use crate::family::tiny::{tiny, tiny_with, Tiny};
 use crate::model::image::BLOCK;
 use crate::model::position::bound;
+use crate::subject::Question;
 
 /// Where the footer begins in the one chunk.
 const FOOTER_AT: u64 = BLOCK - 128;
@@ -22,7 +23,7 @@ fn edited(name: &str, why: &str, edit: &dyn Fn(&mut Tiny)) -> Case {
 }
 
 /// The calls that read the root.
-fn root_calls() -> Vec<crate::subject::Question> {
+fn root_calls() -> Vec<Question> {
     [page_calls(3, 0, &[]), vec![count()]].concat()
 }
 
