@@ -1,6 +1,8 @@
 //! `check` is the short run; `check --long SEED IMAGES` the long one, on that many random images;
-//! `check --store FILE DUMP` reads one more store that H2 wrote.
+//! `check --store FILE DUMP` reads one more store that H2 wrote; `check --list` is the model's
+//! listing of the image on standard input.
 
+use std::io::Read;
 use std::panic::{catch_unwind, AssertUnwindSafe};
 use std::path::Path;
 use std::process::ExitCode;
@@ -9,6 +11,7 @@ use std::{env, io};
 
 use vihtumora_tests::check::properties::{self, Maps};
 use vihtumora_tests::check::{codes, family, seam, sparse, stores};
+use vihtumora_tests::model::listing::listing;
 use vihtumora_tests::subject::Judge;
 
 /// The random images of the short run.
@@ -20,6 +23,9 @@ const STEP: u64 = 1000;
 fn main() -> io::Result<ExitCode> {
     let words: Vec<String> = env::args().skip(1).collect();
     let words: Vec<&str> = words.iter().map(String::as_str).collect();
+    if words == ["--list"] {
+        return list();
+    }
     let mut judge = Judge::default();
     let good = match words[..] {
         [] => short_run(&mut judge)?,
@@ -27,7 +33,7 @@ fn main() -> io::Result<ExitCode> {
         ["--store", file, dump] => {
             stores::check(&mut judge, Path::new(file), Path::new(dump)).map(|()| true)?
         }
-        _ => panic!("usage: check [--long SEED IMAGES | --store FILE DUMP]"),
+        _ => panic!("usage: check [--long SEED IMAGES | --store FILE DUMP | --list]"),
     };
     let tally = &judge.tally;
     tally.shown.iter().for_each(|what| eprintln!("disagreement: {what}"));
@@ -37,6 +43,13 @@ fn main() -> io::Result<ExitCode> {
     );
     let good = good && tally.disagreements == 0;
     Ok(if good { ExitCode::SUCCESS } else { ExitCode::FAILURE })
+}
+
+fn list() -> io::Result<ExitCode> {
+    let mut input = Vec::new();
+    io::stdin().read_to_end(&mut input)?;
+    print!("{}", listing(&input));
+    Ok(ExitCode::SUCCESS)
 }
 
 /// The real stores, the stored family and some random images; each refusal must be reached in each
