@@ -10,9 +10,11 @@ use crate::build::plan::{write, PageRef, Plan};
 use crate::build::tree::{Entries, MapPlan, Placed};
 use crate::family::questions::*;
 use crate::family::standard::{chunk_entry, numbered, METADATA_PLAN};
-use crate::model::image::{BLOCK, MOST_BLOCKS};
+use crate::model::image::BLOCK;
 use crate::subject::{Judge, Question};
 
+/// "It has 3 to 268,435,456 blocks."
+const MOST_BLOCKS: u64 = 268_435_456;
 /// Where the chunks stand: around 2^31 and 2^32 bytes, half way, and in the last block.
 const BLOCKS: [u64; 6] = [2, 524_287, 524_288, 1_048_575, 1 << 27, MOST_BLOCKS - 1];
 const FORCES_PLAN: MapPlan = MapPlan { id: 1, kind: 0 };

@@ -4,11 +4,11 @@ use crate::build::page::{variable, PagePlan};
 use crate::build::tree::number_key;
 use crate::family::case::{join, Case};
 use crate::family::questions::*;
-use crate::family::standard::{numbered, Standard};
+use crate::family::standard::{numbered, standard, Standard};
 use crate::subject::{MapArgs, Question};
 
 pub fn cases() -> Vec<Case> {
-    join(vec![arguments(), names(), roots(), lookups(), indexes(), copies()])
+    join(vec![arguments(), names(), roots(), lookups(), indexes(), copies(), listings()])
 }
 
 /// Refusal 1 in each call.
@@ -173,4 +173,21 @@ fn copies() -> Vec<Case> {
         .says(copy(7, 1), "value 8470 0; area a5")
         .says(copy(8, 0), "absent; area -")
         .says(copy(8, 2), "absent; area a5a5")]
+}
+
+/// "program input over 65,536 bytes" is refused by the program alone.
+fn listings() -> Vec<Case> {
+    let sized = |name, bytes: usize| {
+        let mut image = standard().plan.image();
+        image.resize(bytes, 0);
+        Case::new(name, "program input over 65,536 bytes", image)
+            .says(open(), "chunk 3 block 5 version 3")
+    };
+    let entries = "-5 24 | -1 24 | 0 0 | 7 0 | 9 24 | 100 24";
+    let listed =
+        format!("text chunk 3 block 5 version 3 | map 1 entries 6 pages 4 depth 2 | {entries}");
+    vec![
+        sized("listing-of-65536-bytes", 65536).says(Question::List, &listed),
+        sized("listing-of-65537-bytes", 65537).says(Question::List, "text refused 2"),
+    ]
 }
