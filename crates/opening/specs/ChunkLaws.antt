@@ -1,5 +1,5 @@
 -- Laws of standing chunks.
-use Prim.Native.Nat.{ℕ, suc, _+_, _*_, _-_, _^_, _<_, _≤_}
+use Prim.Native.Nat.{ℕ, _+_, _*_, _-_, _^_, _<_, _≤_}
 use mathlib.Core.Path.{_≡_, refl, sym, _∙_, ap, subst}
 use mathlib.Core.Bool.{Bool, true, false, cond, _&&_}
 use mathlib.Core.List.{List}
@@ -10,7 +10,6 @@ use lib.ListN.{length}
 use Rattle.opening.specs.Names.{block, chunk, len}
 use Rattle.opening.specs.declared.image.Reading.{Reading}
 use Rattle.opening.specs.declared.chunk.Chunk.{Chunk}
-use Rattle.opening.specs.declared.chunk.Standing.{Standing}
 use Rattle.opening.specs.declared.chunk.Standing.the-variants.{Stands, Nothing}
 use Rattle.opening.specs.Image.{blockSize, blocksIn, chunkLine, footerLine, value}
 use Rattle.opening.specs.Chunk.{needed, fitting, chunkOf, footerOf, footed, standsAt}

@@ -8,7 +8,7 @@
 --   chunkLine image b    the line of the chunk header in block b
 --   footerLine image e   the footer's line in the last 128 bytes before block e
 -- The last three are all that opening reads of the image.
-use Prim.Native.Nat.{ℕ, _+_, _*_, _-_, _/_}
+use Prim.Native.Nat.{ℕ, _*_, _-_, _/_}
 use mathlib.Core.Bool.{Bool, false, cond, _&&_}
 use mathlib.Core.List.{List}
 use lib.Dec.{eqb}
@@ -16,7 +16,6 @@ use lib.ListN.{length, take, drop, getD}
 use Rattle.text.specs.Text.{within}
 use Rattle.line.specs.declared.Line.{Line}
 use Rattle.line.specs.declared.Line.the-variants.{At, Nothing}
-use Rattle.line.specs.declared.read.Fields.{Fields}
 use Rattle.line.specs.Line.{lineOf}
 use Rattle.line.specs.Fields.{readOf, noFields, rightSum}
 use Rattle.opening.specs.declared.image.Reading.{Reading}

@@ -1,18 +1,16 @@
 -- Laws of the image, its blocks and its lines.
-use Prim.Native.Nat.{ℕ, zero, suc, _+_, _*_, _-_, _/_, _^_, _<_, _≤_, min}
-use mathlib.Core.Path.{_≡_, refl, sym, _∙_, ap}
-use mathlib.Core.Bool.{Bool, true, false, cond}
+use Prim.Native.Nat.{ℕ, _*_, _-_, _^_, _<_, _≤_}
+use mathlib.Core.Path.{_≡_, refl, sym, _∙_}
+use mathlib.Core.Bool.{Bool, true, false}
 use mathlib.Core.List.{List}
 use native.Mathlib.Omega.{arith}
-use borrow.Author.Tests.{ltb-true}
-use lib.Dec.{eqb, ltb}
-use lib.ListN.{length, getD, take, drop, length-take, length-drop, drop-of-length-le}
+use lib.ListN.{length, drop, length-take, length-drop, drop-of-length-le}
 use lib.Seq.{take-all, take-nil}
-use Rattle.text.specs.Text.{span, isNot}
 use Rattle.text.specs.Laws.{within-true}
 use Rattle.line.specs.declared.Line.{Line}
 use Rattle.line.specs.declared.Line.the-variants.{At, Nothing}
-use Rattle.line.specs.Line.{lineOf, trimmed}
+use Rattle.line.specs.Line.{lineOf}
+use Rattle.line.specs.LineLaws.{line-inside}
 use Rattle.opening.specs.Image.{blockSize, blocksOf, sizeRight, blocksIn, plain, areaAt, plainLine, chunkLine}
 
 -- ## Blocks
@@ -80,34 +78,6 @@ unfolding chunkLine
 block-524288 image = refl
 
 -- ## Lines
-trimmed-most : (n : ℕ) (s : List ℕ) → trimmed n s ≤ n
-unfolding trimmed
-trimmed-most zero s = omega arith
-trimmed-most (suc n) s = go (eqb (getD s n 0) 32) (trimmed-most n s)
-  where
-    go : (t : Bool) → trimmed n s ≤ n → cond t (trimmed n s) (suc n) ≤ suc n
-    go true h = omega arith
-    go false h = omega arith
-
--- a line stands before its newline, which stands in the area
-pub record LineIn (area : List ℕ) (n newline : ℕ) : Type 0 where
-  pub before : n ≤ newline
-  pub inside : newline < length area
-
-pub line-in : (area : List ℕ) {n newline : ℕ} → lineOf area ≡ At n newline → LineIn area n newline
-unfolding lineOf
-line-in area {n} {newline} e = go (ltb at (length area)) refl e
-  where
-    at : ℕ
-    at = span (isNot 10) area
-
-    go : (t : Bool) → ltb at (length area) ≡ t → cond t (At (trimmed at area) at) Nothing ≡ At n newline → LineIn area n newline
-    go true q e =
-        let a : trimmed at area ≡ n = cc in
-        let b : at ≡ newline = cc in
-        record { before = omega (arith, trimmed-most at area); inside = omega (arith, ltb-true at (length area) q) }
-    go false q e = absurd (let z : _≡_ {A = ℕ} 0 1 = cc in omega arith)
-
 -- the pages of a chunk may begin within 1,024 bytes
 pub newline-small : (image : List ℕ) (b : ℕ) → chunkLine image b .newline < 1024
 unfolding chunkLine
@@ -118,4 +88,4 @@ newline-small image b = go (lineOf area) refl
 
     go : (l : Line) → lineOf area ≡ l → plain area l .newline < 1024
     go Nothing e = omega arith
-    go (At n newline) e = omega (arith, line-in area e .inside, area-length image (b * blockSize) 1024)
+    go (At n newline) e = omega (arith, line-inside area n newline e .inside, area-length image (b * blockSize) 1024)

@@ -1,17 +1,19 @@
 -- Opening, after document 01, "Opening": from the image to the newest chunk.
 --
 --   Copy                     what a good file header copy says: nothing more, or block, chunk and version
---   copyOf r                 the good copy that a file header's reading is, if it is one
+--   formatRight r            a file header's reading says this format
+--   namesAll r, namesAny r   it has all, or any, of block, chunk and version
+--   copyOf r                 the good copy that it is, if it is one
 --   counting a b             the copy that counts, of two
 --   headerStart, footerStart the two starts
---   start image h            the start that is taken
+--   higher a b               the one that is taken
+--   successor image c        the chunk at c's `next`, if it has a strictly higher version
 --   chain image n c          the newest chunk from c on, in at most n steps
 --   opened image             the newest chunk, or the refusal
 use Prim.Native.Nat.{ℕ, zero, suc, _+_}
-use mathlib.Core.Bool.{Bool, true, false, cond, not, _&&_, _||_}
+use mathlib.Core.Bool.{Bool, true, false, cond, _&&_, _||_}
 use mathlib.Core.List.{List}
 use lib.Dec.{eqb, ltb}
-use Rattle.refusal.specs.declared.Refusal.{Refusal}
 use Rattle.refusal.specs.Refusal.{badImageSize, noHeader, noStart}
 use Rattle.opening.specs.Names.{h, blockSize, format, block, chunk, version}
 use Rattle.opening.specs.declared.image.Reading.{Reading}
@@ -61,6 +63,7 @@ abbrev pub kept : (Chunk → Bool) → Standing → Standing
 kept P Nothing = Nothing
 kept P (Stands c) = cond (P c) (Stands c) Nothing
 
+-- three things for which a chunk is kept: its id, where it ends, a strictly higher version
 abbrev pub hasId : ℕ → Chunk → Bool
 hasId id k = eqb (k .id) id
 

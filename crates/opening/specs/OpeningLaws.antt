@@ -1,12 +1,13 @@
 -- What holds of the chunk that opening gives.
-use Prim.Native.Nat.{ℕ}
-use mathlib.Core.Path.{_≡_, refl, sym, _∙_, subst}
+use Prim.Native.Nat.{ℕ, _<_, _≤_}
+use mathlib.Core.Path.{_≡_, refl, subst}
 use mathlib.Core.Bool.{Bool, true, false, cond, _&&_, _||_}
 use mathlib.Core.List.{List}
 use mathlib.Core.Logic.{_⊎_, inl, inr, ⊎-elim}
 use native.Mathlib.Omega.{arith}
+use borrow.Author.Tests.{eq-eqb, ne-eqb, lt-ltb, le-ltb}
 use lib.Dec.{eqb, ltb}
-use Rattle.refusal.specs.Refusal.{badImageSize, noHeader, noStart}
+use Rattle.refusal.specs.Refusal.{badImageSize, noHeader}
 use Rattle.opening.specs.Names.{block}
 use Rattle.opening.specs.declared.image.Reading.{Reading}
 use Rattle.opening.specs.declared.chunk.Chunk.{Chunk}
@@ -14,13 +15,34 @@ use Rattle.opening.specs.declared.chunk.Standing.{Standing}
 use Rattle.opening.specs.declared.chunk.Standing.the-variants.{Stands, Nothing}
 use Rattle.opening.specs.declared.header.Copy.{Copy}
 use Rattle.opening.specs.declared.header.Copy.the-variants.{Names, Plain, NoCopy}
-use Rattle.opening.specs.declared.Opened.{Opened}
 use Rattle.opening.specs.declared.Opened.the-variants.{Newest, Refused}
 use Rattle.opening.specs.Image.{blocksIn, sizeRight, footerLine, gives, value}
 use Rattle.opening.specs.Chunk.{standsAt}
-use Rattle.opening.specs.Opening.{headerOf, kept, hasId, endsAt, headerStart, footerStart, higher, successor, chain, newestFrom, good, openedBy, opened}
+use Rattle.opening.specs.Opening.{headerOf, kept, hasId, endsAt, headerStart, footerStart, higher}
+use Rattle.opening.specs.Opening.{successor, chain, newestFrom, good, opened}
 use Rattle.opening.specs.ChunkLaws.{Stood, stands-stood}
 use Rattle.opening.specs.ChainLaws.{kept-told, chain-ended, chain-stood}
+
+-- ## The higher start, a law for each way that the code takes
+module _ (a b : Chunk) where
+  pub higher-newer : a .version < b .version → higher (Stands a) (Stands b) ≡ Stands b
+  unfolding higher
+  higher-newer h = rw (lt-ltb (a .version) (b .version) h)
+
+  pub higher-older : b .version < a .version → higher (Stands a) (Stands b) ≡ Stands a
+  unfolding higher
+  higher-older h = rw (le-ltb (a .version) (b .version) (omega arith), ne-eqb (a .version) (b .version) (omega arith))
+
+  module _ (p : a .version ≤ b .version) (q : b .version ≤ a .version) where
+    pub higher-tie-second : b .block < a .block → higher (Stands a) (Stands b) ≡ Stands b
+    unfolding higher
+    higher-tie-second h =
+        rw (le-ltb (a .version) (b .version) q, eq-eqb (a .version) (b .version) (omega arith), lt-ltb (b .block) (a .block) h)
+
+    pub higher-tie-first : a .block ≤ b .block → higher (Stands a) (Stands b) ≡ Stands a
+    unfolding higher
+    higher-tie-first h =
+        rw (le-ltb (a .version) (b .version) q, eq-eqb (a .version) (b .version) (omega arith), le-ltb (b .block) (a .block) h)
 
 -- ## The starts stand
 kept-stood : (image : List ℕ) (P : Chunk → Bool) (b : ℕ) {c : Chunk} → kept P (standsAt image b) ≡ Stands c → Stood image c
@@ -54,7 +76,8 @@ higher-either (Stands a) (Stands b) {c} e =
     go true e = inr e
     go false e = inl e
 
-start-stood : (image : List ℕ) (copy : Copy) {c : Chunk} → higher (headerStart image copy) (footerStart image) ≡ Stands c → Stood image c
+start-stood : (image : List ℕ) (copy : Copy) {c : Chunk} →
+    higher (headerStart image copy) (footerStart image) ≡ Stands c → Stood image c
 start-stood image copy e =
     ⊎-elim (header-start-stood image copy) (footer-start-stood image) (higher-either (headerStart image copy) (footerStart image) e)
 
@@ -64,8 +87,8 @@ pub record NewestIn (image : List ℕ) (c : Chunk) : Type 0 where
   pub stood : Stood image c
   pub last : successor image c ≡ Nothing
 
-newest-from : (image : List ℕ) (s : Standing) {c : Chunk} → sizeRight image ≡ true → ((k : Chunk) → s ≡ Stands k → Stood image k) →
-    newestFrom image s ≡ Newest c → NewestIn image c
+newest-from : (image : List ℕ) (s : Standing) {c : Chunk} → sizeRight image ≡ true →
+    ((k : Chunk) → s ≡ Stands k → Stood image k) → newestFrom image s ≡ Newest c → NewestIn image c
 unfolding newestFrom
 newest-from image Nothing r f e = absurd (let z : _≡_ {A = ℕ} 0 1 = cc in omega arith)
 newest-from image (Stands k) {c} r f e =

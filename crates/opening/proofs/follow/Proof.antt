@@ -18,20 +18,29 @@ loop-holds c = refl
 
 returns : tie.Need-returns Inv-loop μ-loop
 returns c =
-    let image = now (c .before .before .before .before .before .args .image) in
-    sym (chain-last image (blocksIn image) (c .before .before .before .loop .newest) (sym (c .before .before .successor-of .ensures) ∙ c .enum-told .given .1)) ∙ c .before .before .before .loop .inv
+    let c3 = c .before .before .before in
+    let c5 = c3 .before .before in
+    let image = now (c5 .args .image) in
+    let last = sym (c .before .before .successor-of .ensures) ∙ c .enum-told .given .1 in
+    sym (chain-last image (blocksIn image) (c3 .loop .newest) last) ∙ c3 .loop .inv
 
 loop-less : tie.Need-loop-less Inv-loop μ-loop
 loop-less c =
-    let l = c .before .before .before .before .loop in
-    let a = c .before .before .before .before .before .before .args in
-    successor-falls (now (a .image)) (l .newest) (sym (c .before .before .before .successor-of .ensures) ∙ c .before .s .given .1)
+    let c3 = c .before .before .before in
+    let c4 = c3 .before in
+    let c6 = c4 .before .before in
+    let l = c4 .loop in
+    let a = c6 .args in
+    successor-falls (now (a .image)) (l .newest) (sym (c3 .successor-of .ensures) ∙ c .before .s .given .1)
 
 loop-again : tie.Need-loop-again Inv-loop μ-loop
 loop-again c =
-    let l = c .before .before .before .before .loop in
-    let a = c .before .before .before .before .before .before .args in
-    sym (chain-next (now (a .image)) (l .newest) (sym (c .before .before .before .successor-of .ensures) ∙ c .before .s .given .1)) ∙ l .inv
+    let c3 = c .before .before .before in
+    let c4 = c3 .before in
+    let c6 = c4 .before .before in
+    let l = c4 .loop in
+    let a = c6 .args in
+    sym (chain-next (now (a .image)) (l .newest) (sym (c3 .successor-of .ensures) ∙ c .before .s .given .1)) ∙ l .inv
 
 pub follow-spec : {M : Type 1} → statement M
 follow-spec =

@@ -1,6 +1,6 @@
-use borrow.Author.Tests.{eq-eqb, ne-eqb, lt-ltb, le-ltb}
-use native.Mathlib.Omega.{arith}
+use mathlib.Core.Path.{sym}
 use Rattle.opening.specs.Opening.{higher}
+use Rattle.opening.specs.OpeningLaws.{higher-newer, higher-older, higher-tie-second, higher-tie-first}
 use borrow.Author.Needs.{needs}
 use Rattle.opening.proofs.higher_start.Statement.{statement}
 use Rattle.opening.proofs.higher_start.Tie as tie
@@ -14,29 +14,40 @@ unfolding higher
 returns-2 c = rw (c .before .before .before .a .given .1, c .enum-told2 .given .1)
 
 returns-3 : tie.Need-returns-3
-unfolding higher
-returns-3 c = rw (c .before .before .before .before .before .before .before .a .given .1, c .before .before .before .before .b .given .1, lt-ltb _ _ (c .if1 .taken))
+returns-3 c =
+    let c4 = c .before .before .before .before in
+    let c7 = c4 .before .before .before in
+    rw (c7 .a .given .1, c4 .b .given .1) (sym (higher-newer (c7 .a .given .0 .0) (c4 .b .given .0 .0) (c .if1 .taken)))
 
 returns-4 : tie.Need-returns-4
-unfolding higher
 returns-4 c =
-    let x = c .before .before .before .before .before .before .before .before .before .before .a .given .0 .0 in
-    let y = c .before .before .before .before .before .before .before .b .given .0 .0 in
-    rw (c .before .before .before .before .before .before .before .before .before .before .a .given .1, c .before .before .before .before .before .before .before .b .given .1, le-ltb (x .version) (y .version) (c .before .before .before .if1 .left), ne-eqb (x .version) (y .version) (omega arith))
+    let c7 = c .before .before .before .before .before .before .before in
+    let c10 = c7 .before .before .before in
+    rw (c10 .a .given .1, c7 .b .given .1) (sym (higher-older (c10 .a .given .0 .0) (c7 .b .given .0 .0) (c .if2 .taken)))
 
 returns-5 : tie.Need-returns-5
-unfolding higher
 returns-5 c =
-    let x = c .before .before .before .before .before .before .before .before .before .before .before .before .before .a .given .0 .0 in
-    let y = c .before .before .before .before .before .before .before .before .before .before .b .given .0 .0 in
-    rw (c .before .before .before .before .before .before .before .before .before .before .before .before .before .a .given .1, c .before .before .before .before .before .before .before .before .before .before .b .given .1, le-ltb (x .version) (y .version) (c .before .before .before .before .before .before .if1 .left), eq-eqb (x .version) (y .version) (omega (arith, c .before .before .before .before .before .before .if1 .left, c .before .before .before .if2 .left)), lt-ltb (y .block) (x .block) (c .if3 .taken))
+    let c3 = c .before .before .before in
+    let c6 = c3 .before .before .before in
+    let c10 = c6 .before .before .before .before in
+    let c13 = c10 .before .before .before in
+    rw (
+      c13 .a .given .1,
+      c10 .b .given .1,
+    )
+    (sym (higher-tie-second (c13 .a .given .0 .0) (c10 .b .given .0 .0) (c3 .if2 .left) (c6 .if1 .left) (c .if3 .taken)))
 
 returns-6 : tie.Need-returns-6
-unfolding higher
 returns-6 c =
-    let x = c .before .before .before .before .before .before .before .before .before .before .before .before .before .a .given .0 .0 in
-    let y = c .before .before .before .before .before .before .before .before .before .before .b .given .0 .0 in
-    rw (c .before .before .before .before .before .before .before .before .before .before .before .before .before .a .given .1, c .before .before .before .before .before .before .before .before .before .before .b .given .1, le-ltb (x .version) (y .version) (c .before .before .before .before .before .before .if1 .left), eq-eqb (x .version) (y .version) (omega (arith, c .before .before .before .before .before .before .if1 .left, c .before .before .before .if2 .left)), le-ltb (y .block) (x .block) (c .if3 .left))
+    let c3 = c .before .before .before in
+    let c6 = c3 .before .before .before in
+    let c10 = c6 .before .before .before .before in
+    let c13 = c10 .before .before .before in
+    rw (
+      c13 .a .given .1,
+      c10 .b .given .1,
+    )
+    (sym (higher-tie-first (c13 .a .given .0 .0) (c10 .b .given .0 .0) (c3 .if2 .left) (c6 .if1 .left) (c .if3 .left)))
 
 pub higher-start-spec : {M : Type 1} → statement M
 higher-start-spec =

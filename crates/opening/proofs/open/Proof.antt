@@ -1,6 +1,9 @@
+use mathlib.Core.Bool.{cond}
 use denote.Ref.{now}
-use mathlib.Core.Path.{sym, _∙_}
-use Rattle.opening.specs.Opening.{opened}
+use mathlib.Core.Path.{_≡_, sym, _∙_}
+use Rattle.opening.specs.Opening.{headerStart, footerStart, higher, newestFrom, opened}
+use Rattle.opening.specs.declared.Opened.the-variants.{Refused}
+use Rattle.refusal.specs.Refusal.{noHeader}
 use Rattle.opening.specs.ImageLaws.{size-right, size-wrong}
 use borrow.Author.Needs.{needs}
 use Rattle.opening.proofs.open.Statement.{statement}
@@ -12,17 +15,37 @@ returns c =
     let a = c .before .before .before .before .args in
     rw (size-wrong (now (a .image)) (sym (c .before .before .blocks-in .ensures) ∙ c .before .if1 .taken), c .new .ensures)
 
-returns-2 : tie.Need-returns-2
+-- what is left once the size is right
+sized : (c : tie.After-is-good) →
+    opened (now (c .before .before .before .before .before .args .image)) ≡
+    cond (c .is-good .result)
+    (newestFrom (now (c .before .before .before .before .before .args .image))
+    (higher (headerStart (now (c .before .before .before .before .before .args .image)) (c .before .header-of .result))
+    (footerStart (now (c .before .before .before .before .before .args .image)))))
+    (Refused noHeader)
 unfolding opened
-returns-2 c =
-    let a = c .before .before .before .before .before .before .before .args in
-    rw (size-right (now (a .image)) (λ e. c .before .before .before .before .if1 .left (c .before .before .before .before .before .blocks-in .ensures ∙ e)), ← c .before .before .before .header-of .ensures, ← c .before .before .is-good .ensures, c .before .if2 .left, c .new2 .ensures)
+sized c =
+    let c3 = c .before .before .before in
+    rw (
+      size-right (now (c3 .before .before .args .image)) (λ e. c .before .before .if1 .left (c3 .blocks-in .ensures ∙ e)),
+      ← c .before .header-of .ensures,
+      ← c .is-good .ensures,
+    )
+
+returns-2 : tie.Need-returns-2
+returns-2 c = rw (sized (c .before .before), c .before .if2 .left, c .new2 .ensures)
 
 returns-3 : tie.Need-returns-3
-unfolding opened
 returns-3 c =
-    let a = c .before .before .before .before .before .before .before .before .before .before .args in
-    rw (size-right (now (a .image)) (λ e. c .before .before .before .before .before .before .before .if1 .left (c .before .before .before .before .before .before .before .before .blocks-in .ensures ∙ e)), ← c .before .before .before .before .before .before .header-of .ensures, ← c .before .before .before .before .before .is-good .ensures, c .before .before .before .before .if2 .taken, ← c .before .before .before .header-start .ensures, ← c .before .before .footer-start .ensures, ← c .before .higher-start .ensures) (c .newest-from .ensures)
+    let c3 = c .before .before .before in
+    rw (
+      sized (c3 .before .before),
+      c3 .before .if2 .taken,
+      ← c3 .header-start .ensures,
+      ← c .before .before .footer-start .ensures,
+      ← c .before .higher-start .ensures,
+    )
+    (c .newest-from .ensures)
 
 pub open-spec : {M : Type 1} → statement M
 open-spec =

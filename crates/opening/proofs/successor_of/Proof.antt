@@ -10,11 +10,17 @@ returns c = rw (← c .before .before .stands-at .ensures, c .enum-told .given .
 
 returns-2 : tie.Need-returns-2
 unfolding successor
-returns-2 c = rw (← c .before .before .before .before .before .before .stands-at .ensures, c .before .before .before .before .s .given .1, lt-ltb _ _ (c .if1 .taken))
+returns-2 c =
+    let c4 = c .before .before .before .before in
+    let c6 = c4 .before .before in
+    rw (← c6 .stands-at .ensures, c4 .s .given .1, lt-ltb _ _ (c .if1 .taken))
 
 returns-3 : tie.Need-returns-3
 unfolding successor
-returns-3 c = rw (← c .before .before .before .before .before .before .stands-at .ensures, c .before .before .before .before .s .given .1, le-ltb _ _ (c .if1 .left))
+returns-3 c =
+    let c4 = c .before .before .before .before in
+    let c6 = c4 .before .before in
+    rw (← c6 .stands-at .ensures, c4 .s .given .1, le-ltb _ _ (c .if1 .left))
 
 pub successor-of-spec : {M : Type 1} → statement M
 successor-of-spec =

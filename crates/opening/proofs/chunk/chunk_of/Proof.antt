@@ -5,8 +5,18 @@ use Rattle.opening.proofs.chunk.chunk_of.Tie as tie
 
 returns : tie.Need-returns
 returns c =
-    let a = c .before .before .before .before .before .before .args in
-    rw (c .before .before .before .before .before .value .ensures, c .before .before .before .before .value2 .ensures, c .before .before .value3 .ensures, c .before .value4 .ensures, c .value5 .ensures, add-one (a .r .newline))
+    let c4 = c .before .before .before .before in
+    let c5 = c4 .before in
+    let c6 = c5 .before in
+    let a = c6 .args in
+    rw (
+      c5 .value .ensures,
+      c4 .value2 .ensures,
+      c .before .before .value3 .ensures,
+      c .before .value4 .ensures,
+      c .value5 .ensures,
+      add-one (a .r .newline),
+    )
 
 pub chunk-of-spec : {M : Type 1} → statement M
 chunk-of-spec =

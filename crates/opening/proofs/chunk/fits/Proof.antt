@@ -3,6 +3,7 @@ use mathlib.Core.Path.{sym, _∙_}
 use Prim.Native.Nat.{_+_, _^_}
 use borrow.Author.Tests.{eq-eqb, ne-eqb, lt-ltb, le-ltb, le-leb, lt-leb}
 use Rattle.opening.specs.Chunk.{fitting}
+use mathlib.Core.Bool.{and-false}
 use Rattle.opening.specs.Names.{block, chunk, len}
 use Rattle.opening.specs.Image.{value}
 use Rattle.opening.specs.ChunkLaws.{room-test}
@@ -12,32 +13,40 @@ use Rattle.opening.proofs.chunk.fits.Tie as tie
 
 returns : tie.Need-returns
 unfolding fitting
-returns c = rw (le-ltb (value (c .before .before .before .args .r) chunk) (2 ^ 26) (omega (arith, c .before .value2 .ensures)))
+returns c =
+    let c3 = c .before .before .before in
+    rw (le-ltb (value (c3 .args .r) chunk) (2 ^ 26) (omega (arith, c .before .value2 .ensures)))
 
 returns-2 : tie.Need-returns-2
 unfolding fitting
 returns-2 c =
-    let r = c .before .before .before .before .before .args .r in
-    rw (lt-ltb (value r chunk) (2 ^ 26) (omega (arith, c .before .before .before .value2 .ensures)), ne-eqb (value r block) (c .before .before .before .before .before .args .b) (λ e. c .if2 .taken (c .before .value3 .ensures ∙ e)))
+    let a = c .before .before .before .before .before .args in
+    simp (ne-eqb (value (a .r) block) (a .b) (λ e. c .if2 .taken (c .before .value3 .ensures ∙ e)), and-false)
 
 returns-3 : tie.Need-returns-3
 unfolding fitting
 returns-3 c =
-    let r = c .before .before .before .before .before .before .args .r in
-    rw (lt-ltb (value r chunk) (2 ^ 26) (omega (arith, c .before .before .before .before .value2 .ensures)), eq-eqb (value r block) (c .before .before .before .before .before .before .args .b) (sym (c .before .before .value3 .ensures) ∙ c .before .if2 .left), lt-leb 1 (value r len) (omega (arith, c .before .before .before .before .before .value .ensures)))
+    let a = c .before .before .before .before .before .before .args in
+    simp (lt-leb 1 (value (a .r) len) (omega (arith, c .before .before .before .before .before .value .ensures)), and-false)
 
 returns-4 : tie.Need-returns-4
 unfolding fitting
 returns-4 c =
-    let r = c .before .before .before .before .before .before .before .args .r in
-    rw (lt-ltb (value r chunk) (2 ^ 26) (omega (arith, c .before .before .before .before .before .value2 .ensures)), eq-eqb (value r block) (c .before .before .before .before .before .before .before .args .b) (sym (c .before .before .before .value3 .ensures) ∙ c .before .before .if2 .left), le-leb 1 (value r len) (omega (arith, c .before .before .before .before .before .before .value .ensures)), lt-leb (c .before .before .before .before .before .before .before .args .b + value r len) (c .before .before .before .before .before .before .before .args .blocks) (omega arith))
+    let a = c .before .before .before .before .before .before .before .args in
+    simp (lt-leb (a .b + value (a .r) len) (a .blocks) (omega arith), and-false)
 
 returns-5 : tie.Need-returns-5
 unfolding fitting
 returns-5 c =
-    let r = c .before .before .before .before .before .before .before .args .r in
-    rw (c .before .before .before .before .before .before .value .ensures, lt-ltb (value r chunk) (2 ^ 26) (omega (arith, c .before .before .before .before .before .value2 .ensures)), eq-eqb (value r block) (c .before .before .before .before .before .before .before .args .b) (sym (c .before .before .before .value3 .ensures) ∙ c .before .before .if2 .left), le-leb 1 (value r len) (omega (arith, c .before .before .before .before .before .before .value .ensures)))
-    (room-test (value r len) (c .before .before .before .before .before .before .before .args .b) (c .before .before .before .before .before .before .before .args .blocks) (c .if4 .left))
+    let c3 = c .before .before .before in
+    let c5 = c3 .before .before in
+    let c6 = c5 .before in
+    let c7 = c6 .before in
+    let a = c7 .args in
+    let id = lt-ltb (value (a .r) chunk) (2 ^ 26) (omega (arith, c5 .value2 .ensures)) in
+    let place = eq-eqb (value (a .r) block) (a .b) (sym (c3 .value3 .ensures) ∙ c .before .before .if2 .left) in
+    let some = le-leb 1 (value (a .r) len) (omega (arith, c6 .value .ensures)) in
+    rw (id, place, some, c6 .value .ensures) (room-test (value (a .r) len) (a .b) (a .blocks) (c .if4 .left))
 
 pub fits-spec : {M : Type 1} → statement M
 fits-spec =

@@ -9,15 +9,50 @@ returns c = rw (← c .before .is-format .ensures, c .if1 .left)
 
 returns-2 : tie.Need-returns-2
 unfolding copyOf
-returns-2 c = rw (← c .before .before .before .before .before .before .is-format .ensures, c .before .before .before .before .before .if1 .taken, ← c .before .before .before .before .names-all .ensures, c .before .before .before .if2 .taken, c .before .before .value .ensures, c .before .value2 .ensures, c .value3 .ensures)
+returns-2 c =
+    let c3 = c .before .before .before in
+    let c4 = c3 .before in
+    let c5 = c4 .before in
+    let c6 = c5 .before in
+    rw (
+      ← c6 .is-format .ensures,
+      c5 .if1 .taken,
+      ← c4 .names-all .ensures,
+      c3 .if2 .taken,
+      c .before .before .value .ensures,
+      c .before .value2 .ensures,
+      c .value3 .ensures,
+    )
 
 returns-3 : tie.Need-returns-3
 unfolding copyOf
-returns-3 c = rw (← c .before .before .before .before .before .is-format .ensures, c .before .before .before .before .if1 .taken, ← c .before .before .before .names-all .ensures, c .before .before .if2 .left, ← c .before .names-any .ensures, c .if3 .taken)
+returns-3 c =
+    let c3 = c .before .before .before in
+    let c4 = c3 .before in
+    let c5 = c4 .before in
+    rw (
+      ← c5 .is-format .ensures,
+      c4 .if1 .taken,
+      ← c3 .names-all .ensures,
+      c .before .before .if2 .left,
+      ← c .before .names-any .ensures,
+      c .if3 .taken,
+    )
 
 returns-4 : tie.Need-returns-4
 unfolding copyOf
-returns-4 c = rw (← c .before .before .before .before .before .is-format .ensures, c .before .before .before .before .if1 .taken, ← c .before .before .before .names-all .ensures, c .before .before .if2 .left, ← c .before .names-any .ensures, c .if3 .left)
+returns-4 c =
+    let c3 = c .before .before .before in
+    let c4 = c3 .before in
+    let c5 = c4 .before in
+    rw (
+      ← c5 .is-format .ensures,
+      c4 .if1 .taken,
+      ← c3 .names-all .ensures,
+      c .before .before .if2 .left,
+      ← c .before .names-any .ensures,
+      c .if3 .left,
+    )
 
 pub copy-of-spec : {M : Type 1} → statement M
 copy-of-spec =

@@ -30,11 +30,15 @@ returns-6 c = rw (c .before .before .before .a .given .1, c .enum-told7 .given .
 
 returns-7 : tie.Need-returns-7
 unfolding counting
-returns-7 c = rw (c .before .before .before .before .before .a .given .1, c .before .before .b .given .1, lt-ltb _ _ (c .if1 .taken))
+returns-7 c =
+    let c5 = c .before .before .before .before .before in
+    rw (c5 .a .given .1, c .before .before .b .given .1, lt-ltb _ _ (c .if1 .taken))
 
 returns-8 : tie.Need-returns-8
 unfolding counting
-returns-8 c = rw (c .before .before .before .before .before .a .given .1, c .before .before .b .given .1, le-ltb _ _ (c .if1 .left))
+returns-8 c =
+    let c5 = c .before .before .before .before .before in
+    rw (c5 .a .given .1, c .before .before .b .given .1, le-ltb _ _ (c .if1 .left))
 
 pub counting-copy-spec : {M : Type 1} → statement M
 counting-copy-spec =

@@ -5,11 +5,16 @@ use Rattle.opening.proofs.header.names_all.Tie as tie
 
 returns : tie.Need-returns
 unfolding namesAll
-returns c = rw (← c .before .before .before .before .gives .ensures, c .before .before .before .if1 .taken, ← c .before .before .gives2 .ensures, c .before .if2 .taken, ← c .gives3 .ensures)
+returns c =
+    let c3 = c .before .before .before in
+    let c4 = c3 .before in
+    rw (← c4 .gives .ensures, c3 .if1 .taken, ← c .before .before .gives2 .ensures, c .before .if2 .taken, ← c .gives3 .ensures)
 
 returns-2 : tie.Need-returns-2
 unfolding namesAll
-returns-2 c = rw (← c .before .before .before .gives .ensures, c .before .before .if1 .taken, ← c .before .gives2 .ensures, c .if2 .left)
+returns-2 c =
+    let c3 = c .before .before .before in
+    rw (← c3 .gives .ensures, c .before .before .if1 .taken, ← c .before .gives2 .ensures, c .if2 .left)
 
 returns-3 : tie.Need-returns-3
 unfolding namesAll

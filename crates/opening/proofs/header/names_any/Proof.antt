@@ -9,11 +9,16 @@ returns c = rw (← c .before .gives .ensures, c .if1 .taken)
 
 returns-2 : tie.Need-returns-2
 unfolding namesAny
-returns-2 c = rw (← c .before .before .before .gives .ensures, c .before .before .if1 .left, ← c .before .gives2 .ensures, c .if2 .taken)
+returns-2 c =
+    let c3 = c .before .before .before in
+    rw (← c3 .gives .ensures, c .before .before .if1 .left, ← c .before .gives2 .ensures, c .if2 .taken)
 
 returns-3 : tie.Need-returns-3
 unfolding namesAny
-returns-3 c = rw (← c .before .before .before .before .gives .ensures, c .before .before .before .if1 .left, ← c .before .before .gives2 .ensures, c .before .if2 .left, ← c .gives3 .ensures)
+returns-3 c =
+    let c3 = c .before .before .before in
+    let c4 = c3 .before in
+    rw (← c4 .gives .ensures, c3 .if1 .left, ← c .before .before .gives2 .ensures, c .before .if2 .left, ← c .gives3 .ensures)
 
 pub names-any-spec : {M : Type 1} → statement M
 names-any-spec =

@@ -18,7 +18,9 @@ returns-2 c =
     area-last (now (a .image)) (a .at) (a .n) (c .before .if2 .taken)
 
 returns-3 : tie.Need-returns-3
-returns-3 c = let n : c .before .before .before .args .at + c .before .before .before .args .n - c .before .before .before .args .at ≡ c .before .before .before .args .n = omega arith in rw n
+returns-3 c =
+    let c3 = c .before .before .before in
+    let n : c3 .args .at + c3 .args .n - c3 .args .at ≡ c3 .args .n = omega arith in rw n
 
 pub area-at-spec : {M : Type 1} → statement M
 area-at-spec =

@@ -9,7 +9,9 @@ use Rattle.opening.proofs.image.footer_line.Tie as tie
 returns : tie.Need-returns
 unfolding footerLine
 returns c =
-    let z : c .before .before .before .before .before .args .e * blockSize - 128 ≡ 0 = omega (arith, c .before .before .before .start-of .ensures) in
+    let c3 = c .before .before .before in
+    let c5 = c3 .before .before in
+    let z : c5 .args .e * blockSize - 128 ≡ 0 = omega (arith, c3 .start-of .ensures) in
     rw (z, ← c .before .area-at .ensures) (c .summed-line .ensures)
 
 returns-2 : tie.Need-returns-2
