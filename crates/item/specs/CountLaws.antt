@@ -4,17 +4,20 @@
 use Prim.Native.Nat.{ℕ, zero, suc, _+_, _-_, _≤_, _<_}
 use mathlib.Core.Path.{_≡_, refl, _∙_, ap}
 use mathlib.Core.List.{List}
+use mathlib.Core.Bool.{Bool, true, false, cond}
 use mathlib.Core.Option.{Option, none, some}
 use native.Mathlib.Omega.{arith}
-use borrow.Author.Tests.{lt-ltb, le-ltb}
-use lib.ListN.{getD, getElem?}
+use borrow.Author.Tests.{lt-ltb, le-ltb, ltb-true}
+use lib.Dec.{ltb}
+use lib.ListN.{getD}
+use Rattle.numeral.specs.declared.Numeral.{Numeral}
 use Rattle.numeral.specs.declared.Numeral.the-variants.{Read, Bad}
 use Rattle.numeral.specs.Var.{varAt}
 use Rattle.item.specs.declared.Counted.{Counted}
 use Rattle.item.specs.declared.Counted.the-variants.{Sum, Stuck}
 use Rattle.item.specs.Step.{Step, got, bad, onStep, after, upTo}
 use Rattle.item.specs.StepLaws.{onSome, getD-elem, after-more, after-bad, upTo-past, upTo-nth, itemOf}
-use Rattle.item.specs.Item.{countLimit, countAt, countedOf, counted}
+use Rattle.item.specs.Item.{onNumeral, countLimit, countAt, countedOf, counted}
 
 unfoldable pub countedFrom : List ℕ → ℕ → ℕ → ℕ → Counted
 countedFrom s n i sum = countedOf (after (countAt s) n (i, sum))
@@ -34,6 +37,26 @@ module _ (s : List ℕ) where
     pub count-over : countLimit ≤ sum + v → countAt s (i, sum) ≡ bad
     unfolding countAt
     count-over h = rw (e, le-ltb (sum + v) countLimit h)
+
+  -- a count that reads is in the sum, which stays below 2^48
+  pub count-sum : (c : ℕ × ℕ) {v : ℕ} {d : ℕ × ℕ} → countAt s c ≡ got v d → (d .1 ≡ c .1 + v) × (d .1 < countLimit)
+  unfolding countAt
+  count-sum c {v} {d} e = go (varAt countLimit s (c .0)) e
+    where
+      by : (u next : ℕ) (t : Bool) → ltb (c .1 + u) countLimit ≡ t → cond t (got u (next, c .1 + u)) bad ≡ got v d
+          → (d .1 ≡ c .1 + v) × (d .1 < countLimit)
+      by u next true q h =
+          let l = ltb-true (c .1 + u) countLimit q in
+          let f : u ≡ v = cc in
+          let p : _≡_ {A = ℕ × ℕ} (next, c .1 + u) d = cc in
+          let g : c .1 + u ≡ d .1 = ap (λ (x : ℕ × ℕ). x .1) p in
+          (omega arith, omega arith)
+      by u next false q h = absurd (let z : _≡_ {A = ℕ} 0 1 = cc in omega arith)
+
+      go : (r : Numeral) → onNumeral r bad (λ u next. cond (ltb (c .1 + u) countLimit) (got u (next, c .1 + u)) bad) ≡ got v d
+          → (d .1 ≡ c .1 + v) × (d .1 < countLimit)
+      go (Read u next) h = by u next (ltb (c .1 + u) countLimit) refl h
+      go Bad h = absurd (let z : _≡_ {A = ℕ} 0 1 = cc in omega arith)
 
   -- ## One step of a sum
   pub counted-from : (n i : ℕ) → countedFrom s n i 0 ≡ counted s n i

@@ -16,9 +16,9 @@ use Rattle.key.specs.SizedLaws.{Lies, sized-lies, key-lies}
 use Rattle.item.specs.declared.Form.{Form}
 use Rattle.item.specs.declared.Form.the-variants as form
 use Rattle.item.specs.declared.Skip.the-variants.{Past, Stuck}
-use Rattle.item.specs.Step.{Step, got, bad, onStep, after, upTo}
+use Rattle.item.specs.Step.{got, bad, onStep, after, upTo}
 use Rattle.item.specs.StepLaws.{onSome, after-more, after-bad, upTo-length, upTo-nth, itemOf}
-use Rattle.item.specs.Item.{Spot, onSized, itemAt, items, valueLimit, spotOf, skipOf, skipped}
+use Rattle.item.specs.Item.{onSized, itemAt, items, valueLimit, spotOf, skipOf, skipped}
 
 -- ## One step of a form
 module _ (s : List ℕ) (f : Form) where

@@ -27,7 +27,8 @@ use Rattle.item.specs.declared.Counted.the-variants as sums
 use Rattle.item.specs.Item.{onNumeral, skipped, counted}
 use Rattle.page.specs.declared.Judged.{Judged}
 use Rattle.page.specs.declared.Judged.the-variants.{Refused, Leaf, Inner}
-use Rattle.page.specs.Judged.{startOf, footerAt, begins, lengthFits, onSkip, onCounted, whole, keyForm, leafAt, innerAt, bodyAt, fieldsAt, judgedAt}
+use Rattle.page.specs.Judged.{startOf, footerAt, begins, lengthFits, onSkip, onCounted, keyForm}
+use Rattle.page.specs.Judged.{leafAt, innerAt, bodyAt, fieldsAt, judgedAt}
 
 pub record LeafPassed (s : List ℕ) (kind : Kind) (n keys values e : ℕ) : Type 0 where
   pub few : n < 2 ^ 31
@@ -53,57 +54,48 @@ take-again (suc m) [] = refl
 take-again (suc m) (x ∷ s) = ap (x ∷_) (take-again m s)
 
 module _ (image : List ℕ) (kind : Kind) where
-  cond-passed : (t : Bool) (page : Judged) (r : Refusal) → Passed image kind page → Passed image kind (cond t page (Refused r))
-  cond-passed true page r h = h
+  -- ## A page that is not refused has passed each test on the way
+  cond-passed : (t : Bool) (page : Judged) (r : Refusal) → (t ≡ true → Passed image kind page) → Passed image kind (cond t page (Refused r))
+  cond-passed true page r h = h refl
   cond-passed false page r h = tt
 
-  -- of a page that ends with s, a beginning of the image
+  skip-passed : (x : Skip) (go : ℕ → Judged) → ((i : ℕ) → x ≡ skip.Past i → Passed image kind (go i)) → Passed image kind (onSkip x go)
+  skip-passed (skip.Past i) go h = h i refl
+  skip-passed skip.Stuck go h = tt
+
+  counted-passed : (x : Counted) (go : ℕ → ℕ → Judged) → ((total i : ℕ) → x ≡ sums.Sum total i → Passed image kind (go total i))
+      → Passed image kind (onCounted x go)
+  counted-passed (sums.Sum total i) go h = h total i refl
+  counted-passed sums.Stuck go h = tt
+
+  numeral-passed : (x : Numeral) (r : Refusal) (go : ℕ → ℕ → Judged) → ((v i : ℕ) → x ≡ numeral.Read v i → Passed image kind (go v i))
+      → Passed image kind (onNumeral x (Refused r) go)
+  numeral-passed (numeral.Read v i) r go h = h v i refl
+  numeral-passed numeral.Bad r go h = tt
+
+  -- ## A page that ends with s, a beginning of the image
   module _ (s : List ℕ) (cut : take (length s) image ≡ s) where
-    whole-passed : (e : ℕ) (page : Judged) → (e ≡ length s → Passed image kind page) → Passed image kind (whole s e page)
-    whole-passed e page h = go (eqb e (length s)) refl
-      where
-        go : (t : Bool) → eqb e (length s) ≡ t → Passed image kind (cond t page (Refused badContents))
-        go true q = h (eqb-true e (length s) q)
-        go false q = tt
+    cut-end : (e : ℕ) → eqb e (length s) ≡ true → take e image ≡ s
+    cut-end e t = rw (eqb-true e (length s) t) cut
 
     module _ (n : ℕ) (few : n < 2 ^ 31) where
       leaf-passed : (keys : ℕ) → Passed image kind (leafAt s (keyForm kind) n keys)
       unfolding leafAt
-      leaf-passed keys = go (skipped s (keyForm kind) n keys) refl
-        where
-          by : (values : ℕ) → skipped s (keyForm kind) n keys ≡ skip.Past values → (x : Skip) → skipped s Bytes n values ≡ x
-              → Passed image kind (onSkip x (λ e. whole s e (Leaf n keys values e)))
-          by values p (skip.Past e) q = whole-passed e (Leaf n keys values e) (λ f.
-              let c : take e image ≡ s = rw f cut in
-              rw c (record { few = few; key-items = p; value-items = q; nothing-left = f }))
-          by values p skip.Stuck q = tt
-
-          go : (x : Skip) → skipped s (keyForm kind) n keys ≡ x
-              → Passed image kind (onSkip x (λ values. onSkip (skipped s Bytes n values) (λ e. whole s e (Leaf n keys values e))))
-          go (skip.Past values) p = by values p (skipped s Bytes n values) refl
-          go skip.Stuck p = tt
+      leaf-passed keys =
+          skip-passed (skipped s (keyForm kind) n keys) _ (λ values p.
+          skip-passed (skipped s Bytes n values) _ (λ e q.
+          cond-passed (eqb e (length s)) _ badContents (λ t.
+          rw (cut-end e t) (record { few = few; key-items = p; value-items = q; nothing-left = eqb-true e (length s) t }))))
 
       inner-passed : (positions : ℕ) → Passed image kind (innerAt s (keyForm kind) n positions)
       unfolding innerAt
-      inner-passed positions = go (skipped s Word (n + 1) positions) refl
-        where
-          last : (counts total keys : ℕ) → skipped s Word (n + 1) positions ≡ skip.Past counts → counted s (n + 1) counts ≡ sums.Sum total keys
-              → (x : Skip) → skipped s (keyForm kind) n keys ≡ x
-              → Passed image kind (onSkip x (λ e. whole s e (Inner n positions counts keys e total)))
-          last counts total keys p c (skip.Past e) q = whole-passed e (Inner n positions counts keys e total) (λ f.
-              let g : take e image ≡ s = rw f cut in
-              rw g (record { few = few; position-items = p; count-items = c; key-items = q; nothing-left = f }))
-          last counts total keys p c skip.Stuck q = tt
-
-          by : (counts : ℕ) → skipped s Word (n + 1) positions ≡ skip.Past counts → (x : Counted) → counted s (n + 1) counts ≡ x
-              → Passed image kind (onCounted x (λ total keys. onSkip (skipped s (keyForm kind) n keys) (λ e. whole s e (Inner n positions counts keys e total))))
-          by counts p (sums.Sum total keys) c = last counts total keys p c (skipped s (keyForm kind) n keys) refl
-          by counts p sums.Stuck c = tt
-
-          go : (x : Skip) → skipped s Word (n + 1) positions ≡ x
-              → Passed image kind (onSkip x (λ counts. onCounted (counted s (n + 1) counts) (λ total keys. onSkip (skipped s (keyForm kind) n keys) (λ e. whole s e (Inner n positions counts keys e total)))))
-          go (skip.Past counts) p = by counts p (counted s (n + 1) counts) refl
-          go skip.Stuck p = tt
+      inner-passed positions =
+          skip-passed (skipped s Word (n + 1) positions) _ (λ counts p.
+          counted-passed (counted s (n + 1) counts) _ (λ total keys c.
+          skip-passed (skipped s (keyForm kind) n keys) _ (λ e q.
+          cond-passed (eqb e (length s)) _ badContents (λ t.
+          rw (cut-end e t)
+          (record { few = few; position-items = p; count-items = c; key-items = q; nothing-left = eqb-true e (length s) t })))))
 
       body-passed : (type i : ℕ) → Passed image kind (bodyAt s type (keyForm kind) n i)
       body-passed type i = go (eqb type 0)
@@ -114,27 +106,20 @@ module _ (image : List ℕ) (kind : Kind) where
 
     fields-passed : (i type map : ℕ) → Passed image kind (fieldsAt s i type map kind)
     unfolding fieldsAt
-    fields-passed i type map = go (varAt (2 ^ 31) s i)
-      where
-        typed : ℕ → ℕ → Judged
-        typed n k = cond (ltb k (length s)) (cond (eqb (getD s k 0) type) (bodyAt s type (keyForm kind) n (k + 1)) (Refused otherMapOrType)) (Refused badContents)
-
-        by : (j : ℕ) (x : Numeral) → varAt (2 ^ 31) s j ≡ x → Passed image kind (onNumeral x (Refused badContents) typed)
-        by j (numeral.Read n k) q =
-            cond-passed (ltb k (length s)) _ badContents
-            (cond-passed (eqb (getD s k 0) type) _ otherMapOrType (body-passed n (varAt-read (2 ^ 31) s j q .below) type (k + 1)))
-        by j numeral.Bad q = tt
-
-        go : (x : Numeral) → Passed image kind (onNumeral x (Refused badContents) (λ m j. cond (eqb m map) (onNumeral (varAt (2 ^ 31) s j) (Refused badContents) typed) (Refused otherMapOrType)))
-        go (numeral.Read m j) = cond-passed (eqb m map) _ otherMapOrType (by j (varAt (2 ^ 31) s j) refl)
-        go numeral.Bad = tt
+    fields-passed i type map =
+        numeral-passed (varAt (2 ^ 31) s i) badContents _ (λ m j a.
+        cond-passed (eqb m map) _ otherMapOrType (λ t.
+        numeral-passed (varAt (2 ^ 31) s j) badContents _ (λ n k b.
+        cond-passed (ltb k (length s)) _ badContents (λ u.
+        cond-passed (eqb (getD s k 0) type) _ otherMapOrType (λ v.
+        body-passed n (varAt-read (2 ^ 31) s j b .below) type (k + 1))))))
 
   pub judged-passed : (c : Place) (p map : ℕ) → Passed image kind (judgedAt image c p map kind)
   unfolding judgedAt
   judged-passed c p map =
       let at = startOf c + offsetOf p in
       let n = bigEndianAt 4 image at in
-      cond-passed (begins c (offsetOf p)) _ outOfPlace
-      (cond-passed (lengthFits (codeOf p) n (footerAt c - at)) _ outOfPlace
-      (cond-passed (eqb (bigEndianAt 2 image (at + 4)) (checkOf (chunkOf p) (offsetOf p) n)) _ badCheckValue
-      (fields-passed (take (at + n) image) (take-again (at + n) image) (at + 6) (typeOf p) map)))
+      cond-passed (begins c (offsetOf p)) _ outOfPlace (λ t.
+      cond-passed (lengthFits (codeOf p) n (footerAt c - at)) _ outOfPlace (λ u.
+      cond-passed (eqb (bigEndianAt 2 image (at + 4)) (checkOf (chunkOf p) (offsetOf p) n)) _ badCheckValue (λ v.
+      fields-passed (take (at + n) image) (take-again (at + n) image) (at + 6) (typeOf p) map)))

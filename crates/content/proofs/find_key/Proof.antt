@@ -1,6 +1,5 @@
 use native.Mathlib.Omega.{arith}
 use mathlib.Core.Path.{_≡_, sym, _∙_, ap}
-use denote.Ref.{now}
 use Rattle.key.specs.Key.{keyOf, compareKeys}
 use Rattle.tree.specs.Asking.{findIn}
 use Rattle.content.specs.Content.{entriesIn, foundOf}
@@ -18,33 +17,26 @@ abbrev μ-loop : tie.MeasureT-loop
 
 returns : tie.Need-returns Inv-loop μ-loop
 returns c =
-    let l = c .before .before .before .before .loop in
-    let a = c .before .before .before .before .before .before .before .args in
-    ap foundOf (sym (find-stopped (now (a .s)) (a .kind) (keyOf (a .kind) (now (a .key))) (l .left) (l .i) (l .v) (omega arith) (sym (c .before .before .probe-key .ensures) ∙ c .enum-told .given .1)) ∙ l .inv)
+    ap foundOf (sym (find-stopped _ _ _ _ _ _ (omega arith) (sym (c .before .before .probe-key .ensures) ∙ c .enum-told .given .1)) ∙ c .before .before .before .before .loop .inv)
 
 returns-2 : tie.Need-returns-2 Inv-loop μ-loop
 returns-2 c =
-    let l = c .before .before .before .before .before .before .before .before .loop in
-    let a = c .before .before .before .before .before .before .before .before .before .before .before .args in
-    ap foundOf (sym (find-bad (now (a .s)) (a .kind) (keyOf (a .kind) (now (a .key))) (l .left) (l .i) (l .v) (sym (c .before .before .item-at .ensures) ∙ c .enum-told2 .given .1)) ∙ l .inv)
+    ap foundOf (sym (find-bad _ _ _ _ _ _ (sym (c .before .before .item-at .ensures) ∙ c .enum-told2 .given .1)) ∙ c .before .before .before .before .before .before .before .before .loop .inv)
 
 returns-3 : tie.Need-returns-3 Inv-loop μ-loop
 returns-3 c =
-    let l = c .before .before .before .before .before .before .before .before .before .before .loop in
-    let a = c .before .before .before .before .before .before .before .before .before .before .before .before .before .args in
-    sym (find-same (now (a .s)) (a .kind) (keyOf (a .kind) (now (a .key))) (l .left) (l .i) (l .v) (omega arith) (sym (c .before .before .before .before .before .before .before .before .probe-key .ensures) ∙ c .before .before .before .before .before .before .p .given .1) (sym (c .before .before .before .before .item-at .ensures) ∙ c .before .before .it .given .1) (c .if1 .taken)) ∙ ap foundOf (l .inv)
+    let value = c .before .before in
+    let key = value .before .before .before .before in
+    sym (find-same _ _ _ _ _ _ (omega arith) (sym (key .before .before .probe-key .ensures) ∙ key .p .given .1) (sym (value .before .before .item-at .ensures) ∙ value .it .given .1) (c .if1 .taken)) ∙ ap foundOf (key .before .before .before .before .loop .inv)
 
 loop-again : tie.Need-loop-again Inv-loop μ-loop
 loop-again c =
-    let l = c .before .before .before .before .before .before .before .before .before .before .loop in
-    let a = c .before .before .before .before .before .before .before .before .before .before .before .before .before .args in
-    sym (find-less (now (a .s)) (a .kind) (keyOf (a .kind) (now (a .key))) (l .left) (l .i) (l .v) (omega arith) (sym (c .before .before .before .before .before .before .before .before .probe-key .ensures) ∙ c .before .before .before .before .before .before .p .given .1) (sym (c .before .before .before .before .item-at .ensures) ∙ c .before .before .it .given .1) (c .if1 .left)) ∙ l .inv
+    let value = c .before .before in
+    let key = value .before .before .before .before in
+    sym (find-less _ _ _ _ _ _ (omega arith) (sym (key .before .before .probe-key .ensures) ∙ key .p .given .1) (sym (value .before .before .item-at .ensures) ∙ value .it .given .1) (c .if1 .left)) ∙ key .before .before .before .before .loop .inv
 
 returns-4 : tie.Need-returns-4 Inv-loop μ-loop
-returns-4 c =
-    let l = c .before .loop in
-    let a = c .before .before .before .before .args in
-    ap foundOf (sym (find-none (now (a .s)) (a .kind) (keyOf (a .kind) (now (a .key))) (l .left) (l .i) (l .v) (omega arith)) ∙ l .inv)
+returns-4 c = ap foundOf (sym (find-none _ _ _ _ _ _ (omega arith)) ∙ c .before .loop .inv)
 
 pub find-key-spec : {M : Type 1} → statement M
 find-key-spec =

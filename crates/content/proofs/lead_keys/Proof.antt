@@ -21,14 +21,12 @@ abbrev μ-loop : tie.MeasureT-loop
 returns : tie.Need-returns Inv-loop μ-loop
 returns c =
     let l = c .before .before .before .before .loop in
-    let a = c .before .before .before .before .before .before .before .args in
-    omega (arith, l .inv .1, lead-stopped (now (a .s)) (a .kind) (keyOf (a .kind) (now (a .key))) (l .left) (l .i) (omega arith) (sym (c .before .before .probe-key .ensures) ∙ c .enum-told .given .1))
+    omega (arith, l .inv .1, lead-stopped _ _ _ (l .left) _ (omega arith) (sym (c .before .before .probe-key .ensures) ∙ c .enum-told .given .1))
 
 loop-again : tie.Need-loop-again Inv-loop μ-loop
 loop-again c =
     let l = c .before .before .before .before .before .loop in
-    let a = c .before .before .before .before .before .before .before .before .args in
-    (omega arith, omega (arith, l .inv .1, lead-seen (now (a .s)) (a .kind) (keyOf (a .kind) (now (a .key))) (l .left) (l .i) (omega arith) (sym (c .before .before .before .probe-key .ensures) ∙ c .before .p .given .1)))
+    (omega arith, omega (arith, l .inv .1, lead-seen _ _ _ (l .left) _ (omega arith) (sym (c .before .before .before .probe-key .ensures) ∙ c .before .p .given .1)))
 
 returns-2 : tie.Need-returns-2 Inv-loop μ-loop
 returns-2 c =

@@ -1,9 +1,9 @@
 use Prim.Native.Nat.{_+_, _<_}
 use native.Mathlib.Omega.{arith}
-use mathlib.Core.Path.{_≡_, sym, _∙_}
+use mathlib.Core.Path.{_≡_, sym, _∙_, ap}
 use denote.Ref.{now}
 use Rattle.item.specs.Item.{countLimit}
-use Rattle.content.specs.Content.{countsIn, pick}
+use Rattle.content.specs.Content.{countsIn, pick, pickedOf}
 use Rattle.content.specs.PickLaws.{pickFrom, pick-from, pick-none, pick-bad, pick-over, pick-here, pick-on}
 use borrow.Author.Needs.{needs}
 use Rattle.content.proofs.pick_child.Statement.{statement}
@@ -22,32 +22,25 @@ loop-holds c =
 
 returns : tie.Need-returns Inv-loop μ-loop
 returns c =
-    let l = c .before .before .before .before .loop in
-    let a = c .before .before .before .before .before .before .args in
-    rw (← l .inv .2, pick-bad (now (a .s)) (l .left) (l .i) (l .sum) (l .number) (l .rest) (sym (c .before .before .read-var .ensures) ∙ c .enum-told .given .1))
+    ap pickedOf (sym (pick-bad _ _ _ _ _ _ (sym (c .before .before .read-var .ensures) ∙ c .enum-told .given .1)) ∙ c .before .before .before .before .loop .inv .2)
 
 returns-2 : tie.Need-returns-2 Inv-loop μ-loop
 returns-2 c =
-    let l = c .before .before .before .before .before .before .loop in
-    let a = c .before .before .before .before .before .before .before .before .args in
-    rw (← l .inv .2, pick-over (now (a .s)) (l .left) (l .i) (l .sum) (l .number) (l .rest) (sym (c .before .before .before .before .read-var .ensures) ∙ c .before .before .v .given .1) (omega arith))
+    let count = c .before .before in
+    ap pickedOf (sym (pick-over _ _ _ _ _ _ (sym (count .before .before .read-var .ensures) ∙ count .v .given .1) (omega arith)) ∙ count .before .before .before .before .loop .inv .2)
 
 returns-3 : tie.Need-returns-3 Inv-loop μ-loop
 returns-3 c =
-    let l = c .before .before .before .before .before .before .before .loop in
-    let a = c .before .before .before .before .before .before .before .before .before .args in
-    rw (← l .inv .2, pick-here (now (a .s)) (l .left) (l .i) (l .sum) (l .number) (l .rest) (sym (c .before .before .before .before .before .read-var .ensures) ∙ c .before .before .before .v .given .1) (omega arith) (omega arith) (omega arith))
+    let count = c .before .before .before in
+    ap pickedOf (sym (pick-here _ _ _ _ _ _ (sym (count .before .before .read-var .ensures) ∙ count .v .given .1) (omega arith) (omega arith) (omega arith)) ∙ count .before .before .before .before .loop .inv .2)
 
 loop-again : tie.Need-loop-again Inv-loop μ-loop
 loop-again c =
-    let l = c .before .before .before .before .before .before .before .loop in
-    let a = c .before .before .before .before .before .before .before .before .before .args in
-    (omega arith, omega arith, sym (pick-on (now (a .s)) (l .left) (l .i) (l .sum) (l .number) (l .rest) (sym (c .before .before .before .before .before .read-var .ensures) ∙ c .before .before .before .v .given .1) (omega arith) (omega arith) (omega arith)) ∙ l .inv .2)
+    let count = c .before .before .before in
+    (omega arith, omega arith, sym (pick-on _ _ _ _ _ _ (sym (count .before .before .read-var .ensures) ∙ count .v .given .1) (omega arith) (omega arith) (omega arith)) ∙ count .before .before .before .before .loop .inv .2)
 
 returns-4 : tie.Need-returns-4 Inv-loop μ-loop
-returns-4 c =
-    let l = c .before .loop in
-    rw (← l .inv .2, pick-none (now (c .before .before .before .args .s)) (l .left) (l .i) (l .sum) (l .number) (l .rest) (omega arith))
+returns-4 c = ap pickedOf (sym (pick-none _ _ _ _ _ _ (omega arith)) ∙ c .before .loop .inv .2)
 
 pub pick-child-spec : {M : Type 1} → statement M
 pick-child-spec =

@@ -1,6 +1,5 @@
 use native.Mathlib.Omega.{arith}
 use mathlib.Core.Path.{sym, _∙_}
-use denote.Ref.{now}
 use Rattle.numeral.specs.VarLaws.{varAt-read}
 use Rattle.item.specs.Item.{countLimit}
 use Rattle.item.specs.CountLaws.{nth-count-past, nth-count-stuck, nth-count-bad, nth-count-over, nth-count-at}
@@ -9,34 +8,31 @@ use Rattle.item.proofs.nth_count.Statement.{statement}
 use Rattle.item.proofs.nth_count.Tie as tie
 
 returns : tie.Need-returns
-returns c =
-    let a = c .before .before .args in
-    sym (nth-count-past (now (a .s)) (a .n) (a .at) (a .k) (omega arith))
+returns c = sym (nth-count-past _ _ _ _ (omega arith))
 
 returns-2 : tie.Need-returns-2
-returns-2 c =
-    let a = c .before .before .before .before .before .args in
-    sym (nth-count-stuck (now (a .s)) (a .n) (a .at) (a .k) (omega arith) (sym (c .before .before .sum-counts .ensures) ∙ c .enum-told .given .1))
+returns-2 c = sym (nth-count-stuck _ _ _ _ (omega arith) (sym (c .before .before .sum-counts .ensures) ∙ c .enum-told .given .1))
 
 returns-3 : tie.Need-returns-3
 returns-3 c =
-    let a = c .before .before .before .before .before .before .before .before .before .args in
-    sym (nth-count-bad (now (a .s)) (a .n) (a .at) (a .k) (omega arith) (sym (c .before .before .before .before .before .before .sum-counts .ensures) ∙ c .before .before .before .before .a .given .1) (sym (c .before .before .read-var .ensures) ∙ c .enum-told2 .given .1))
+    let sum = c .before .before .before .before in
+    sym (nth-count-bad _ _ _ _ (omega arith) (sym (sum .before .before .sum-counts .ensures) ∙ sum .a .given .1) (sym (c .before .before .read-var .ensures) ∙ c .enum-told2 .given .1))
 
 sub-if2 : tie.Need-sub-if2
 sub-if2 c =
-    let a = c .before .before .before .before .before .before .before .before .before .before .args in
-    omega (arith, varAt-read countLimit (now (a .s)) (c .before .before .before .before .before .a .given .0 .1 .0) (sym (c .before .before .before .read-var .ensures) ∙ c .before .v .given .1) .below)
+    omega (arith, varAt-read countLimit _ _ (sym (c .before .before .before .read-var .ensures) ∙ c .before .v .given .1) .below)
 
 returns-4 : tie.Need-returns-4
 returns-4 c =
-    let a = c .before .before .before .before .before .before .before .before .before .before .before .args in
-    sym (nth-count-over (now (a .s)) (a .n) (a .at) (a .k) (omega arith) (sym (c .before .before .before .before .before .before .before .before .sum-counts .ensures) ∙ c .before .before .before .before .before .before .a .given .1) (sym (c .before .before .before .before .read-var .ensures) ∙ c .before .before .v .given .1) (omega arith))
+    let count = c .before .before in
+    let sum = count .before .before .before .before in
+    sym (nth-count-over _ _ _ _ (omega arith) (sym (sum .before .before .sum-counts .ensures) ∙ sum .a .given .1) (sym (count .before .before .read-var .ensures) ∙ count .v .given .1) (omega arith))
 
 returns-5 : tie.Need-returns-5
 returns-5 c =
-    let a = c .before .before .before .before .before .before .before .before .before .before .before .args in
-    sym (nth-count-at (now (a .s)) (a .n) (a .at) (a .k) (omega arith) (sym (c .before .before .before .before .before .before .before .before .sum-counts .ensures) ∙ c .before .before .before .before .before .before .a .given .1) (sym (c .before .before .before .before .read-var .ensures) ∙ c .before .before .v .given .1) (omega arith))
+    let count = c .before .before in
+    let sum = count .before .before .before .before in
+    sym (nth-count-at _ _ _ _ (omega arith) (sym (sum .before .before .sum-counts .ensures) ∙ sum .a .given .1) (sym (count .before .before .read-var .ensures) ∙ count .v .given .1) (omega arith))
 
 pub nth-count-spec : {M : Type 1} → statement M
 nth-count-spec =

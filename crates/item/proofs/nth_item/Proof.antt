@@ -14,14 +14,11 @@ returns c =
     sym (upTo-past (items (now (a .s)) (a .form)) (a .n) (a .k) (a .at) (omega arith))
 
 returns-2 : tie.Need-returns-2
-returns-2 c =
-    let a = c .before .before .before .before .before .args in
-    sym (nth-stuck (now (a .s)) (a .form) (a .n) (a .at) (a .k) (omega arith) (sym (c .before .before .skip-items .ensures) ∙ c .enum-told .given .1))
+returns-2 c = sym (nth-stuck _ _ _ _ _ (omega arith) (sym (c .before .before .skip-items .ensures) ∙ c .enum-told .given .1))
 
 returns-3 : tie.Need-returns-3
 returns-3 c =
-    let a = c .before .before .before .before .before .before .before .args in
-    ap spotOf (c .item-at .ensures) ∙ sym (nth-past (now (a .s)) (a .form) (a .n) (a .at) (a .k) (omega arith) (sym (c .before .before .before .before .skip-items .ensures) ∙ c .before .before .a .given .1))
+    ap spotOf (c .item-at .ensures) ∙ sym (nth-past _ _ _ _ _ (omega arith) (sym (c .before .before .before .before .skip-items .ensures) ∙ c .before .before .a .given .1))
 
 pub nth-item-spec : {M : Type 1} → statement M
 nth-item-spec =

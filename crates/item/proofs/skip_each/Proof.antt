@@ -1,6 +1,5 @@
 use native.Mathlib.Omega.{arith}
 use mathlib.Core.Path.{_≡_, sym, _∙_}
-use denote.Ref.{now}
 use Rattle.item.specs.Item.{skipped}
 use Rattle.item.specs.ItemLaws.{skipped-none, skipped-more, skipped-bad}
 use borrow.Author.Needs.{needs}
@@ -15,21 +14,14 @@ abbrev μ-loop : tie.MeasureT-loop
 
 returns : tie.Need-returns Inv-loop μ-loop
 returns c =
-    let l = c .before .before .before .before .loop in
-    let a = c .before .before .before .before .before .before .args in
-    sym (skipped-bad (now (a .s)) (a .form) (l .left) (l .i) (omega arith) (sym (c .before .before .item-at .ensures) ∙ c .enum-told .given .1)) ∙ l .inv
+    sym (skipped-bad _ _ _ _ (omega arith) (sym (c .before .before .item-at .ensures) ∙ c .enum-told .given .1)) ∙ c .before .before .before .before .loop .inv
 
 loop-again : tie.Need-loop-again Inv-loop μ-loop
 loop-again c =
-    let l = c .before .before .before .before .before .loop in
-    let a = c .before .before .before .before .before .before .before .args in
-    sym (skipped-more (now (a .s)) (a .form) (l .left) (l .i) (omega arith) (sym (c .before .before .before .item-at .ensures) ∙ c .before .it .given .1)) ∙ l .inv
+    sym (skipped-more _ _ _ _ (omega arith) (sym (c .before .before .before .item-at .ensures) ∙ c .before .it .given .1)) ∙ c .before .before .before .before .before .loop .inv
 
 returns-2 : tie.Need-returns-2 Inv-loop μ-loop
-returns-2 c =
-    let l = c .before .loop in
-    let a = c .before .before .before .args in
-    sym (skipped-none (now (a .s)) (a .form) (l .left) (l .i) (omega arith)) ∙ l .inv
+returns-2 c = sym (skipped-none _ _ _ _ (omega arith)) ∙ c .before .loop .inv
 
 pub skip-each-spec : {M : Type 1} → statement M
 skip-each-spec =

@@ -1,6 +1,5 @@
 use native.Mathlib.Omega.{arith}
 use mathlib.Core.Path.{sym}
-use denote.Ref.{now}
 use Rattle.item.specs.declared.Form.the-variants.{Word}
 use Rattle.item.specs.ItemLaws.{skipped-none, words-past, words-stuck}
 use borrow.Author.Needs.{needs}
@@ -8,22 +7,16 @@ use Rattle.item.proofs.skip_words.Statement.{statement}
 use Rattle.item.proofs.skip_words.Tie as tie
 
 returns : tie.Need-returns
-returns c = sym (skipped-none (now (c .before .args .s)) Word (c .before .args .n) (c .before .args .at) (omega arith))
+returns c = sym (skipped-none _ Word (c .before .args .n) (c .before .args .at) (omega arith))
 
 returns-2 : tie.Need-returns-2
-returns-2 c =
-    let a = c .before .before .args in
-    sym (words-stuck (now (a .s)) (a .n) (a .at) (omega arith) (omega arith))
+returns-2 c = sym (words-stuck _ _ _ (omega arith) (omega arith))
 
 returns-3 : tie.Need-returns-3
-returns-3 c =
-    let a = c .before .before .before .args in
-    sym (words-stuck (now (a .s)) (a .n) (a .at) (omega arith) (omega arith))
+returns-3 c = sym (words-stuck _ _ _ (omega arith) (omega arith))
 
 returns-4 : tie.Need-returns-4
-returns-4 c =
-    let a = c .before .before .before .args in
-    sym (words-past (now (a .s)) (a .n) (a .at) (omega arith))
+returns-4 c = sym (words-past _ _ _ (omega arith))
 
 pub skip-words-spec : {M : Type 1} → statement M
 skip-words-spec =

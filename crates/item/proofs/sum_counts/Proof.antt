@@ -1,7 +1,6 @@
 use Prim.Native.Nat.{_<_}
 use native.Mathlib.Omega.{arith}
 use mathlib.Core.Path.{_≡_, sym, _∙_}
-use denote.Ref.{now}
 use Rattle.item.specs.Item.{countLimit, counted}
 use Rattle.item.specs.CountLaws.{countedFrom, counted-from, counted-none, counted-more, counted-over, counted-bad}
 use borrow.Author.Needs.{needs}
@@ -15,30 +14,24 @@ abbrev μ-loop : tie.MeasureT-loop
 μ-loop s n at left₀ i₀ sum₀ left i sum = left
 
 loop-holds : tie.Need-loop-holds Inv-loop μ-loop
-loop-holds c = (search needs, counted-from (now (c .before .args .s)) (c .before .args .n) (c .before .args .at))
+loop-holds c = (search needs, counted-from _ _ _)
 
 returns : tie.Need-returns Inv-loop μ-loop
 returns c =
-    let l = c .before .before .before .before .loop in
-    let a = c .before .before .before .before .before .before .args in
-    sym (counted-bad (now (a .s)) (l .left) (l .i) (l .sum) (omega arith) (sym (c .before .before .read-var .ensures) ∙ c .enum-told .given .1)) ∙ l .inv .1
+    sym (counted-bad _ _ _ _ (omega arith) (sym (c .before .before .read-var .ensures) ∙ c .enum-told .given .1)) ∙ c .before .before .before .before .loop .inv .1
 
 returns-2 : tie.Need-returns-2 Inv-loop μ-loop
 returns-2 c =
-    let l = c .before .before .before .before .before .before .loop in
-    let a = c .before .before .before .before .before .before .before .before .args in
-    sym (counted-over (now (a .s)) (l .left) (l .i) (l .sum) (omega arith) (sym (c .before .before .before .before .read-var .ensures) ∙ c .before .before .v .given .1) (omega arith)) ∙ l .inv .1
+    let count = c .before .before in
+    sym (counted-over _ _ _ _ (omega arith) (sym (count .before .before .read-var .ensures) ∙ count .v .given .1) (omega arith)) ∙ count .before .before .before .before .loop .inv .1
 
 loop-again : tie.Need-loop-again Inv-loop μ-loop
 loop-again c =
-    let l = c .before .before .before .before .before .before .loop in
-    let a = c .before .before .before .before .before .before .before .before .args in
-    (omega arith, sym (counted-more (now (a .s)) (l .left) (l .i) (l .sum) (omega arith) (sym (c .before .before .before .before .read-var .ensures) ∙ c .before .before .v .given .1) (omega arith)) ∙ l .inv .1)
+    let count = c .before .before in
+    (omega arith, sym (counted-more _ _ _ _ (omega arith) (sym (count .before .before .read-var .ensures) ∙ count .v .given .1) (omega arith)) ∙ count .before .before .before .before .loop .inv .1)
 
 returns-3 : tie.Need-returns-3 Inv-loop μ-loop
-returns-3 c =
-    let l = c .before .loop in
-    sym (counted-none (now (c .before .before .before .args .s)) (l .left) (l .i) (l .sum) (omega arith)) ∙ l .inv .1
+returns-3 c = sym (counted-none _ _ _ _ (omega arith)) ∙ c .before .loop .inv .1
 
 pub sum-counts-spec : {M : Type 1} → statement M
 sum-counts-spec =

@@ -1,7 +1,6 @@
 use native.Mathlib.Omega.{arith}
 use mathlib.Core.Path.{sym, ap, _∙_}
 use Prim.Native.Nat.{_^_}
-use denote.Ref.{now}
 use borrow.Author.Tests.{eq-eqb, ne-eqb, lt-ltb, le-ltb}
 use Rattle.numeral.specs.VarLaws.{varAt-read}
 use Rattle.page.specs.declared.Judged.the-variants.{Refused}
@@ -20,36 +19,90 @@ returns-2 c = rw (← c .before .before .before .before .before .read-var .ensur
 
 returns-3 : tie.Need-returns-3
 unfolding fieldsAt
-returns-3 c = rw (← c .before .before .before .before .before .before .before .before .read-var .ensures, c .before .before .before .before .before .before .a .given .1, eq-eqb _ _ (c .before .before .before .before .if1 .left), ← c .before .before .before .read-var2 .ensures, c .before .enum-told2 .given .1) (c .bad-contents2 .ensures)
+returns-3 c =
+    let map = c .before .before .before .before in
+    rw (
+      ← map .before .before .before .before .read-var .ensures,
+      map .before .before .a .given .1,
+      eq-eqb _ _ (map .if1 .left),
+      ← c .before .before .before .read-var2 .ensures,
+      c .before .enum-told2 .given .1,
+    ) (c .bad-contents2 .ensures)
 
 returns-4 : tie.Need-returns-4
 unfolding fieldsAt
-returns-4 c = rw (← c .before .before .before .before .before .before .before .before .before .before .read-var .ensures, c .before .before .before .before .before .before .before .before .a .given .1, eq-eqb _ _ (c .before .before .before .before .before .before .if1 .left), ← c .before .before .before .before .before .read-var2 .ensures, c .before .before .before .b .given .1, le-ltb _ _ (c .before .if2 .taken)) (c .bad-contents3 .ensures)
+returns-4 c =
+    let map = c .before .before .before .before .before .before in
+    rw (
+      ← map .before .before .before .before .read-var .ensures,
+      map .before .before .a .given .1,
+      eq-eqb _ _ (map .if1 .left),
+      ← c .before .before .before .before .before .read-var2 .ensures,
+      c .before .before .before .b .given .1,
+      le-ltb _ _ (c .before .if2 .taken),
+    ) (c .bad-contents3 .ensures)
 
 cast-if3 : tie.Need-cast-if3
 cast-if3 c = omega (arith, c .shared-slice-known2 .given (c .before .before .before .b .given .0 .1 .0))
 
 returns-5 : tie.Need-returns-5
 unfolding fieldsAt
-returns-5 c = rw (← c .before .before .before .before .before .before .before .before .before .before .before .before .read-var .ensures, c .before .before .before .before .before .before .before .before .before .before .a .given .1, eq-eqb _ _ (c .before .before .before .before .before .before .before .before .if1 .left), ← c .before .before .before .before .before .before .before .read-var2 .ensures, c .before .before .before .before .before .b .given .1, lt-ltb _ _ (c .before .before .before .if2 .left), ne-eqb _ _ (c .before .if3 .taken)) (ap Refused (c .new2 .ensures))
+returns-5 c =
+    let type = c .before .before .before in
+    let map = type .before .before .before .before .before in
+    rw (
+      ← map .before .before .before .before .read-var .ensures,
+      map .before .before .a .given .1,
+      eq-eqb _ _ (map .if1 .left),
+      ← type .before .before .before .before .read-var2 .ensures,
+      type .before .before .b .given .1,
+      lt-ltb _ _ (type .if2 .left),
+      ne-eqb _ _ (c .before .if3 .taken),
+    ) (ap Refused (c .new2 .ensures))
 
 cast-leaf : tie.Need-cast-leaf
 cast-leaf c =
-    let a = c .before .before .before .before .before .before .before .before .before .before .before .before .before .before .before .args in
-    omega (arith, varAt-read (2 ^ 31) (now (a .s)) (c .before .before .before .before .before .before .before .before .before .before .before .a .given .0 .1 .0) (sym (c .before .before .before .before .before .before .before .before .read-var2 .ensures) ∙ c .before .before .before .before .before .before .b .given .1) .below)
+    let count = c .before .before .before .before .before .before in
+    omega (arith, varAt-read (2 ^ 31) _ _ (sym (count .before .before .read-var2 .ensures) ∙ count .b .given .1) .below)
 
 cast-inner : tie.Need-cast-inner
 cast-inner c =
-    let a = c .before .before .before .before .before .before .before .before .before .before .before .before .before .before .before .args in
-    omega (arith, varAt-read (2 ^ 31) (now (a .s)) (c .before .before .before .before .before .before .before .before .before .before .before .a .given .0 .1 .0) (sym (c .before .before .before .before .before .before .before .before .read-var2 .ensures) ∙ c .before .before .before .before .before .before .b .given .1) .below)
+    let count = c .before .before .before .before .before .before in
+    omega (arith, varAt-read (2 ^ 31) _ _ (sym (count .before .before .read-var2 .ensures) ∙ count .b .given .1) .below)
 
 returns-6 : tie.Need-returns-6
 unfolding fieldsAt
-returns-6 c = rw (← c .before .before .before .before .before .before .before .before .before .before .before .before .before .before .read-var .ensures, c .before .before .before .before .before .before .before .before .before .before .before .before .a .given .1, eq-eqb _ _ (c .before .before .before .before .before .before .before .before .before .before .if1 .left), ← c .before .before .before .before .before .before .before .before .before .read-var2 .ensures, c .before .before .before .before .before .before .before .b .given .1, lt-ltb _ _ (c .before .before .before .before .before .if2 .left), eq-eqb _ _ (c .before .before .before .if3 .left), eq-eqb _ _ (c .before .before .if4 .taken), ← c .before .key-form .ensures) (c .leaf .ensures)
+returns-6 c =
+    let type = c .before .before .before .before .before in
+    let map = type .before .before .before .before .before in
+    rw (
+      ← map .before .before .before .before .read-var .ensures,
+      map .before .before .a .given .1,
+      eq-eqb _ _ (map .if1 .left),
+      ← type .before .before .before .before .read-var2 .ensures,
+      type .before .before .b .given .1,
+      lt-ltb _ _ (type .if2 .left),
+      eq-eqb _ _ (c .before .before .before .if3 .left),
+      eq-eqb _ _ (c .before .before .if4 .taken),
+      ← c .before .key-form .ensures,
+    ) (c .leaf .ensures)
 
 returns-7 : tie.Need-returns-7
 unfolding fieldsAt
-returns-7 c = rw (← c .before .before .before .before .before .before .before .before .before .before .before .before .before .before .read-var .ensures, c .before .before .before .before .before .before .before .before .before .before .before .before .a .given .1, eq-eqb _ _ (c .before .before .before .before .before .before .before .before .before .before .if1 .left), ← c .before .before .before .before .before .before .before .before .before .read-var2 .ensures, c .before .before .before .before .before .before .before .b .given .1, lt-ltb _ _ (c .before .before .before .before .before .if2 .left), eq-eqb _ _ (c .before .before .before .if3 .left), ne-eqb _ _ (c .before .before .if4 .left), ← c .before .key-form2 .ensures) (c .inner .ensures)
+returns-7 c =
+    let type = c .before .before .before .before .before in
+    let map = type .before .before .before .before .before in
+    rw (
+      ← map .before .before .before .before .read-var .ensures,
+      map .before .before .a .given .1,
+      eq-eqb _ _ (map .if1 .left),
+      ← type .before .before .before .before .read-var2 .ensures,
+      type .before .before .b .given .1,
+      lt-ltb _ _ (type .if2 .left),
+      eq-eqb _ _ (c .before .before .before .if3 .left),
+      ne-eqb _ _ (c .before .before .if4 .left),
+      ← c .before .key-form2 .ensures,
+    ) (c .inner .ensures)
 
 pub fields-spec : {M : Type 1} → statement M
 fields-spec =

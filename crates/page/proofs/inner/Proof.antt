@@ -9,15 +9,42 @@ returns c = rw (← c .before .before .before .skip-items .ensures, c .before .e
 
 returns-2 : tie.Need-returns-2
 unfolding innerAt
-returns-2 c = rw (← c .before .before .before .before .before .before .before .skip-items .ensures, c .before .before .before .before .before .a .given .1, ← c .before .before .before .sum-counts .ensures, c .before .enum-told2 .given .1) (c .bad-contents2 .ensures)
+returns-2 c =
+    let positions = c .before .before .before .before .before in
+    rw (
+      ← positions .before .before .skip-items .ensures,
+      positions .a .given .1,
+      ← c .before .before .before .sum-counts .ensures,
+      c .before .enum-told2 .given .1,
+    ) (c .bad-contents2 .ensures)
 
 returns-3 : tie.Need-returns-3
 unfolding innerAt
-returns-3 c = rw (← c .before .before .before .before .before .before .before .before .before .before .before .skip-items .ensures, c .before .before .before .before .before .before .before .before .before .a .given .1, ← c .before .before .before .before .before .before .before .sum-counts .ensures, c .before .before .before .before .before .b .given .1, ← c .before .before .before .skip-items2 .ensures, c .before .enum-told3 .given .1) (c .bad-contents3 .ensures)
+returns-3 c =
+    let counts = c .before .before .before .before .before in
+    let positions = counts .before .before .before .before in
+    rw (
+      ← positions .before .before .skip-items .ensures,
+      positions .a .given .1,
+      ← counts .before .before .sum-counts .ensures,
+      counts .b .given .1,
+      ← c .before .before .before .skip-items2 .ensures,
+      c .before .enum-told3 .given .1,
+    ) (c .bad-contents3 .ensures)
 
 returns-4 : tie.Need-returns-4
 unfolding innerAt
-returns-4 c = rw (← c .before .before .before .before .before .before .before .before .before .before .before .before .skip-items .ensures, c .before .before .before .before .before .before .before .before .before .before .a .given .1, ← c .before .before .before .before .before .before .before .before .sum-counts .ensures, c .before .before .before .before .before .before .b .given .1, ← c .before .before .before .before .skip-items2 .ensures, c .before .before .d .given .1) (c .whole .ensures)
+returns-4 c =
+    let counts = c .before .before .before .before .before .before in
+    let positions = counts .before .before .before .before in
+    rw (
+      ← positions .before .before .skip-items .ensures,
+      positions .a .given .1,
+      ← counts .before .before .sum-counts .ensures,
+      counts .b .given .1,
+      ← c .before .before .before .before .skip-items2 .ensures,
+      c .before .before .d .given .1,
+    ) (c .whole .ensures)
 
 pub inner-spec : {M : Type 1} → statement M
 inner-spec =

@@ -14,25 +14,68 @@ returns c = rw (← c .before .before .before .offset .ensures, ← c .before .b
 
 sub-footer : tie.Need-sub-footer
 sub-footer c =
-    let a = c .before .before .before .before .before .before .before .args in
-    omega (arith, begins-room (a .chunk) (c .before .before .before .before .before .offset .result) (sym (c .before .before .before .before .page-begins .ensures) ∙ c .before .before .before .if1 .taken))
+    let place = c .before .before .before in
+    omega (arith, begins-room _ (place .before .before .offset .result) (sym (place .before .page-begins .ensures) ∙ place .if1 .taken))
 
 sub-length-fits : tie.Need-sub-length-fits
 sub-length-fits c =
-    let a = c .before .before .before .before .before .before .before .before .before .args in
-    omega (arith, begins-room (a .chunk) (c .before .before .before .before .before .before .before .offset .result) (sym (c .before .before .before .before .before .before .page-begins .ensures) ∙ c .before .before .before .before .before .if1 .taken))
+    let place = c .before .before .before .before .before in
+    omega (arith, begins-room _ (place .before .before .offset .result) (sym (place .before .page-begins .ensures) ∙ place .if1 .taken))
 
 returns-2 : tie.Need-returns-2
 unfolding judgedAt
-returns-2 c = rw (← c .before .before .before .before .before .before .before .before .before .before .offset .ensures, ← c .before .before .before .before .before .before .before .before .before .page-begins .ensures, c .before .before .before .before .before .before .before .before .if1 .taken, ← c .before .before .before .before .be32 .ensures, ← c .before .before .before .code .ensures, ← c .before .before .length-fits .ensures, c .before .if2 .left) (ap Refused (c .new2 .ensures))
+returns-2 c =
+    let place = c .before .before .before .before .before .before .before .before in
+    rw (
+      ← place .before .before .offset .ensures,
+      ← place .before .page-begins .ensures,
+      place .if1 .taken,
+      ← c .before .before .before .before .be32 .ensures,
+      ← c .before .before .before .code .ensures,
+      ← c .before .before .length-fits .ensures,
+      c .before .if2 .left,
+    ) (ap Refused (c .new2 .ensures))
 
 returns-3 : tie.Need-returns-3
 unfolding judgedAt
-returns-3 c = rw (← c .before .before .before .before .before .before .before .before .before .before .before .before .before .before .offset .ensures, ← c .before .before .before .before .before .before .before .before .before .before .before .before .before .page-begins .ensures, c .before .before .before .before .before .before .before .before .before .before .before .before .if1 .taken, ← c .before .before .before .before .before .before .before .before .be32 .ensures, ← c .before .before .before .before .before .before .before .code .ensures, ← c .before .before .before .before .before .before .length-fits .ensures, c .before .before .before .before .before .if2 .taken, ← c .before .before .before .before .be16 .ensures, ← c .before .before .before .chunk .ensures, ← c .before .before .check-value .ensures, ne-eqb _ _ (c .before .if3 .taken)) (ap Refused (c .new3 .ensures))
+returns-3 c =
+    let fits = c .before .before .before .before .before in
+    let place = fits .before .before .before .before .before .before .before in
+    rw (
+      ← place .before .before .offset .ensures,
+      ← place .before .page-begins .ensures,
+      place .if1 .taken,
+      ← fits .before .before .before .be32 .ensures,
+      ← fits .before .before .code .ensures,
+      ← fits .before .length-fits .ensures,
+      fits .if2 .taken,
+      ← c .before .before .before .before .be16 .ensures,
+      ← c .before .before .before .chunk .ensures,
+      ← c .before .before .check-value .ensures,
+      ne-eqb _ _ (c .before .if3 .taken),
+    ) (ap Refused (c .new3 .ensures))
 
 returns-4 : tie.Need-returns-4
 unfolding judgedAt
-returns-4 c = rw (← c .before .before .before .before .before .before .before .before .before .before .before .before .before .before .before .before .offset .ensures, ← c .before .before .before .before .before .before .before .before .before .before .before .before .before .before .before .page-begins .ensures, c .before .before .before .before .before .before .before .before .before .before .before .before .before .before .if1 .taken, ← c .before .before .before .before .before .before .before .before .before .before .be32 .ensures, ← c .before .before .before .before .before .before .before .before .before .code .ensures, ← c .before .before .before .before .before .before .before .before .length-fits .ensures, c .before .before .before .before .before .before .before .if2 .taken, ← c .before .before .before .before .before .before .be16 .ensures, ← c .before .before .before .before .before .chunk .ensures, ← c .before .before .before .before .check-value .ensures, eq-eqb _ _ (c .before .before .before .if3 .left), ← c .before .before .cut .ensures, ← c .before .page-type .ensures) (c .fields .ensures)
+returns-4 c =
+    let check = c .before .before .before in
+    let fits = check .before .before .before .before in
+    let place = fits .before .before .before .before .before .before .before in
+    rw (
+      ← place .before .before .offset .ensures,
+      ← place .before .page-begins .ensures,
+      place .if1 .taken,
+      ← fits .before .before .before .be32 .ensures,
+      ← fits .before .before .code .ensures,
+      ← fits .before .length-fits .ensures,
+      fits .if2 .taken,
+      ← check .before .before .before .be16 .ensures,
+      ← check .before .before .chunk .ensures,
+      ← check .before .check-value .ensures,
+      eq-eqb _ _ (check .if3 .left),
+      ← c .before .before .cut .ensures,
+      ← c .before .page-type .ensures,
+    ) (c .fields .ensures)
 
 pub judge-spec : {M : Type 1} → statement M
 judge-spec =

@@ -9,11 +9,25 @@ returns c = rw (← c .before .before .before .skip-items .ensures, c .before .e
 
 returns-2 : tie.Need-returns-2
 unfolding leafAt
-returns-2 c = rw (← c .before .before .before .before .before .before .before .skip-items .ensures, c .before .before .before .before .before .a .given .1, ← c .before .before .before .skip-items2 .ensures, c .before .enum-told2 .given .1) (c .bad-contents2 .ensures)
+returns-2 c =
+    let keys = c .before .before .before .before .before in
+    rw (
+      ← keys .before .before .skip-items .ensures,
+      keys .a .given .1,
+      ← c .before .before .before .skip-items2 .ensures,
+      c .before .enum-told2 .given .1,
+    ) (c .bad-contents2 .ensures)
 
 returns-3 : tie.Need-returns-3
 unfolding leafAt
-returns-3 c = rw (← c .before .before .before .before .before .before .before .before .skip-items .ensures, c .before .before .before .before .before .before .a .given .1, ← c .before .before .before .before .skip-items2 .ensures, c .before .before .b .given .1) (c .whole .ensures)
+returns-3 c =
+    let keys = c .before .before .before .before .before .before in
+    rw (
+      ← keys .before .before .skip-items .ensures,
+      keys .a .given .1,
+      ← c .before .before .before .before .skip-items2 .ensures,
+      c .before .before .b .given .1,
+    ) (c .whole .ensures)
 
 pub leaf-spec : {M : Type 1} → statement M
 leaf-spec =

@@ -8,9 +8,7 @@ use Rattle.page.proofs.page_begins.Statement.{statement}
 use Rattle.page.proofs.page_begins.Tie as tie
 
 returns : tie.Need-returns
-returns c =
-    let a = c .before .before .before .before .args in
-    sym (begins-no-room (a .chunk) (a .offset) (omega arith))
+returns c = sym (begins-no-room _ _ (omega arith))
 
 returns-2 : tie.Need-returns-2
 unfolding begins
