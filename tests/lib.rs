@@ -3,8 +3,10 @@
 
 pub mod build;
 pub mod check;
+pub mod exchange;
 pub mod family;
 pub mod model;
+pub mod openings;
 pub mod random;
 pub mod subject;
 pub mod vectors;

@@ -1,26 +1,26 @@
 //! `vectors DIR` writes the questions about the leaves to DIR/stdin and the model's answers to
-//! DIR/stdout.
+//! DIR/stdout; `vectors DIR --check` compares instead.
 
-use std::path::Path;
-use std::{env, fs, io};
+use std::process::ExitCode;
+use std::{env, io};
 
+use vihtumora_tests::exchange::Exchange;
 use vihtumora_tests::vectors::{answer, questions};
 
 /// What the reading program takes.
 const LONGEST_QUESTION: usize = 4_000;
 const MOST_BYTES: usize = 60_000;
 
-fn main() -> io::Result<()> {
-    let directory = env::args().nth(1).expect("usage: vectors DIR");
+fn main() -> io::Result<ExitCode> {
+    let arguments: Vec<String> = env::args().collect();
+    let directory = arguments.get(1).expect("usage: vectors DIR [--check]");
     let questions = questions();
     let answers: Vec<String> = questions.iter().map(|q| checked_answer(q)).collect();
-    let stdin = lines(&questions);
+    let (stdin, stdout) = (lines(&questions), lines(&answers));
     assert!(stdin.len() <= MOST_BYTES, "the questions take {} bytes", stdin.len());
-    fs::create_dir_all(&directory)?;
-    fs::write(Path::new(&directory).join("stdin"), &stdin)?;
-    fs::write(Path::new(&directory).join("stdout"), lines(&answers))?;
     println!("vectors: {} questions, {} bytes", questions.len(), stdin.len());
-    Ok(())
+    let good = Exchange { stdin, stdout }.keep(directory, arguments.get(2))?;
+    Ok(if good { ExitCode::SUCCESS } else { ExitCode::FAILURE })
 }
 
 fn checked_answer(question: &str) -> String {
