@@ -80,7 +80,7 @@ fn start_of(b: u32) -> usize
 }
 
 // The `n` bytes at `at`, or as many of them as stand in the image.
-fn area_at(image: &[u8], at: usize, n: usize) -> &[u8]
+pub fn area_at(image: &[u8], at: usize, n: usize) -> &[u8]
     ensures { λ r. ⌜ now r ≡ areaAt (now (image .entry)) at n ⌝ }
 {
     let end = image.len();

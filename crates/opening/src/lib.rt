@@ -10,6 +10,7 @@ pub use header::Copy;
 pub use header::header_of;
 use header::is_good;
 pub use image::Reading;
+pub use image::area_at;
 pub use image::blocks_in;
 pub use image::chunk_line;
 pub use image::footer_line;
@@ -27,11 +28,10 @@ pub enum Opened {
     Refused(Refusal),
 }
 
-// The chunk standing at a block, if it has the id.
-fn named_start(image: &[u8], block: u64, id: u64) -> Standing
-    ensures { λ r. ⌜ r ≡ kept (hasId id) (standsAt (now (image .entry)) block) ⌝ }
+// The chunk that stands, if it has the id.
+pub fn with_id(s: Standing, id: u64) -> Standing
+    ensures { λ r. ⌜ r ≡ kept (hasId id) s ⌝ }
 {
-    let s = stands_at(image, block);
     let Standing::Stands(c) = s else {
         return Standing::Nothing;
     };
@@ -51,7 +51,7 @@ fn header_start(image: &[u8], copy: Copy) -> Standing
             block,
             chunk,
             version: _,
-        } => named_start(image, block, chunk),
+        } => with_id(stands_at(image, block), chunk),
         Copy::Plain => Standing::Nothing,
         Copy::NoCopy => Standing::Nothing,
     }

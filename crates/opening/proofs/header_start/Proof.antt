@@ -5,7 +5,7 @@ use Rattle.opening.proofs.header_start.Tie as tie
 
 returns : tie.Need-returns
 unfolding headerStart
-returns c = rw (c .before .before .copy .given .1) (c .named-start .ensures)
+returns c = rw (c .before .before .before .copy .given .1, ← c .before .stands-at .ensures) (c .with-id .ensures)
 
 returns-2 : tie.Need-returns-2
 unfolding headerStart
@@ -20,6 +20,7 @@ header-start-spec =
     tie.close
     (tie.spec
     (λ c. search needs)
+    (λ c κs. search needs)
     (λ c κs. search needs)
     (λ c. search needs)
     (λ c. search needs)

@@ -1,0 +1,20 @@
+use mathlib.Core.Path.{_∙_, ap}
+use native.Mathlib.Omega.{arith}
+use denote.Ref.{now}
+use Rattle.store.specs.Store.{placeSaid}
+use Rattle.store.specs.MemoryLaws.{empty-right}
+use Rattle.store.specs.AnswerLaws.{place-told}
+use borrow.Author.Needs.{needs}
+use Rattle.store.proofs.chunk_place.Statement.{statement}
+use Rattle.store.proofs.chunk_place.Tie as tie
+
+locate-requires : tie.Need-locate-requires
+locate-requires c κs = (omega arith, empty-right _ _)
+
+returns : tie.Need-returns
+returns c =
+    let a = c .before .before .before .before .args in
+    ap placeSaid (c .located-by .ensures) ∙ place-told (now (a .image)) (a .newest) (a .chunk) (c .before .locate .result) (c .before .locate .ensures .1)
+
+pub chunk-place-spec : {M : Type 1} → statement M
+chunk-place-spec = tie.close (tie.spec locate-requires (λ c κs. search needs) returns)

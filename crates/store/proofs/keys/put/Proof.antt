@@ -1,0 +1,43 @@
+use native.Mathlib.Omega.{arith}
+use native.Mathlib.Numerals.{add-one}
+use Prim.Native.Nat.{_-_, _≤_}
+use mathlib.Core.Path.{_≡_}
+use lib.ListN.{length}
+use lib.Seq.{paste, paste-zero, paste-suc}
+use denote.Ref.{now}
+use borrow.Author.Needs.{needs}
+use Rattle.store.proofs.keys.put.Statement.{statement}
+use Rattle.store.proofs.keys.put.Tie as tie
+
+abbrev Inv-loop : tie.InvT-loop
+Inv-loop key₀ at s i₀ key i = (i ≤ length s) × (key ≡ paste key₀ at s i)
+
+abbrev μ-loop : tie.MeasureT-loop
+μ-loop key₀ at s i₀ key i = length s - i
+
+loop-holds : tie.Need-loop-holds Inv-loop μ-loop
+loop-holds c = (omega arith, paste-zero (c .args .key .now) (c .args .at) (c .args .s .now))
+
+loop-again : tie.Need-loop-again Inv-loop μ-loop
+loop-again c =
+    let l = c .before .before .loop in
+    let a = c .before .before .before .args in
+    (omega arith, rw (l .inv .1, add-one (l .i)) (paste-suc (a .key .now) (a .at) (a .s .now) (l .i) 0 (omega arith) (omega arith)))
+
+returns : tie.Need-returns Inv-loop μ-loop
+returns c = let e : c .before .loop .i ≡ length (c .before .before .args .s .now) = omega arith in rw (c .before .loop .inv .1, e)
+
+pub put-spec : {M : Type 1} → statement M
+put-spec =
+    tie.close
+    (tie.spec
+    Inv-loop
+    μ-loop
+    loop-holds
+    (λ c. search needs)
+    (λ c. search needs)
+    (λ c. search needs)
+    (λ c. search needs)
+    (λ c. search needs)
+    loop-again
+    returns)

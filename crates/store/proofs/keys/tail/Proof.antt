@@ -1,0 +1,32 @@
+use Prim.Native.Nat.{ℕ}
+use Prim.Native.Nat.{_-_}
+use lib.ListN.{length, drop}
+use native.Mathlib.Omega.{arith}
+use lib.ListN.{length-drop, drop-of-length-le}
+use lib.Seq.{take-all, take-nil}
+use borrow.Author.Needs.{needs}
+use Rattle.store.proofs.keys.tail.Statement.{statement}
+use Rattle.store.proofs.keys.tail.Tie as tie
+
+returns : tie.Need-returns
+returns c =
+    let n = length (c .before .before .args .s .now) in
+    rw (drop-of-length-le (c .before .before .args .s .now) {i = c .before .before .args .at} (c .before .if1 .taken), drop-of-length-le (c .before .before .args .s .now) {i = length (c .before .before .args .s .now)} (omega arith)) (take-nil {A = ℕ} (n - n))
+
+returns-2 : tie.Need-returns-2
+returns-2 c =
+    let a = c .before .before .args in
+    take-all (length (a .s .now) - a .at) (drop (a .at) (a .s .now)) (rw length-drop (omega arith))
+
+pub tail-spec : {M : Type 1} → statement M
+tail-spec =
+    tie.close
+    (tie.spec
+    (λ c. search needs)
+    (λ c. search needs)
+    (λ c. search needs)
+    returns
+    (λ c. search needs)
+    (λ c. search needs)
+    (λ c. search needs)
+    returns-2)

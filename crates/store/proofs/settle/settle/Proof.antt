@@ -1,0 +1,59 @@
+use native.Mathlib.Omega.{arith}
+use mathlib.Core.Path.{refl, sym, ap, _∙_}
+use Rattle.store.specs.declared.Told.the-variants.{Refused}
+use Rattle.store.specs.Steps.{needOf, settledTold, settledWords}
+use Rattle.store.specs.MemoryLaws.{Held}
+use Rattle.store.specs.SettleLaws.{standing-held}
+use borrow.Author.Needs.{needs}
+use Rattle.store.proofs.settle.settle.Statement.{statement}
+use Rattle.store.proofs.settle.settle.Tie as tie
+
+returns : tie.Need-returns
+unfolding settledTold settledWords
+returns c = (rw (c .before .before .before .before .before .f2 .given .1, ← c .before .before .before .standing-by .ensures, c .before .enum-told2 .given .1) (ap Refused (c .new2 .ensures)), refl)
+
+add-remember : tie.Need-add-remember
+add-remember c = omega (arith, ap needOf (c .before .before .before .before .before .before .before .f2 .given .1))
+
+remember-requires : tie.Need-remember-requires
+remember-requires c κs =
+    let h : Held (c .before .place-of .result) = rw (c .before .place-of .ensures) (standing-held (c .before .before .before .before .before .before .before .before .before .before .args .image .now) (c .before .before .before .before .before .before .before .before .before .before .args .n) _ (sym (c .before .before .before .before .before .standing-by .ensures) ∙ c .before .before .before .s .given .1)) in
+    (h .block-small, omega (arith, ap needOf (c .before .before .before .before .before .before .before .f2 .given .1)))
+
+add-t17 : tie.Need-add-t17
+add-t17 c = omega (arith, ap needOf (c .before .before .before .before .before .before .before .before .f2 .given .1))
+
+returns-2 : tie.Need-returns-2
+unfolding settledTold settledWords
+returns-2 c =
+    let a = c .before .before .before .before .args in
+    (sym (ap (settledTold (a .image .now) (a .n)) (c .before .f .given .1)), refl)
+
+returns-3 : tie.Need-returns-3
+unfolding settledTold settledWords
+returns-3 c = (rw (c .before .enum-told .given .1) (ap Refused (c .new .ensures)), refl)
+
+returns-4 : tie.Need-returns-4
+unfolding settledTold settledWords
+returns-4 c = (rw (c .before .before .before .before .before .before .before .before .f2 .given .1, ← c .before .before .before .before .before .before .standing-by .ensures, c .before .before .before .before .s .given .1, c .before .before .place-of .ensures), c .remember .ensures)
+
+pub settle-spec : {M : Type 1} → statement M
+settle-spec =
+    tie.close
+    (tie.spec
+    (λ c. search needs)
+    (λ c. search needs)
+    (λ c κs. search needs)
+    (λ c. search needs)
+    (λ c κs. search needs)
+    (λ c. search needs)
+    (λ c. search needs)
+    (λ c κs. search needs)
+    returns
+    (λ c κs. search needs)
+    add-remember
+    remember-requires
+    add-t17
+    returns-2
+    returns-3
+    returns-4)

@@ -1,0 +1,25 @@
+use Rattle.store.specs.Store.{standingBy}
+use borrow.Author.Needs.{needs}
+use Rattle.store.proofs.settle.standing_by.Statement.{statement}
+use Rattle.store.proofs.settle.standing_by.Tie as tie
+
+returns : tie.Need-returns
+unfolding standingBy
+returns c = rw (← c .before .before .before .before .before .before .area-at .ensures, ← c .before .before .before .before .before .read-fields .ensures, c .before .before .if1 .taken, ← c .before .stands-at .ensures) (c .with-id .ensures)
+
+returns-2 : tie.Need-returns-2
+unfolding standingBy
+returns-2 c = rw (← c .before .before .before .before .area-at .ensures, ← c .before .before .before .read-fields .ensures, c .if1 .left)
+
+pub standing-by-spec : {M : Type 1} → statement M
+standing-by-spec =
+    tie.close
+    (tie.spec
+    (λ c κs. search needs)
+    (λ c κs. search needs)
+    (λ c. search needs)
+    (λ c. search needs)
+    (λ c κs. search needs)
+    (λ c κs. search needs)
+    returns
+    returns-2)

@@ -1,0 +1,87 @@
+-- Laws of the public answers: what was told or sought with 8 questions is what the definitions say.
+use Prim.Native.Nat.{ℕ, _≤_, _<_}
+use mathlib.Core.Path.{_≡_, sym}
+use mathlib.Core.List.{List}
+use mathlib.Core.Option.{none, some}
+use native.Mathlib.Omega.{arith}
+use lib.ListN.{length}
+use borrow.Author.Tests.{eq-eqb, ne-eqb, lt-ltb, le-ltb, le-leb, lt-leb}
+use Rattle.refusal.specs.declared.Refusal.{Refusal}
+use Rattle.refusal.specs.Refusal.{ok, refuse, bind, badArgument, notANumber}
+use Rattle.numeral.specs.declared.hex.Number.the-variants as number
+use Rattle.key.specs.declared.Kind.the-variants.{Text}
+use Rattle.key.specs.Key.{keyOf, text}
+use Rattle.locating.specs.GateLaws.{gated-open}
+use Rattle.opening.specs.declared.chunk.Chunk.{Chunk}
+use Rattle.content.specs.Content.{Entry}
+use Rattle.store.specs.declared.Told.{Told}
+use Rattle.store.specs.declared.Told.the-variants as told
+use Rattle.store.specs.declared.Looked.{Looked}
+use Rattle.store.specs.declared.Looked.the-variants as looked
+use Rattle.store.specs.Store.{chunkAt, reader, metaValue, nameKey, rootKey, idOf, namedId, namedRoot, mapId, mapRoot}
+use Rattle.store.specs.Store.{namedMap, placeSaid}
+use Rattle.store.specs.Memory.{TellsOf, Sought}
+use Rattle.store.specs.Steps.{locatedBy, idBy, rootBy}
+
+-- ## Numbers
+pub id-low : (v : ℕ) → v < 1 → idOf (number.Value v) ≡ refuse notANumber
+id-low v h = rw (lt-leb 1 v h)
+
+pub id-high : (v : ℕ) → 0x7fffffff < v → idOf (number.Value v) ≡ refuse notANumber
+id-high v h = rw (le-leb 1 v (omega arith), lt-leb v 0x7fffffff h)
+
+pub id-right : (v : ℕ) → 1 ≤ v → v ≤ 0x7fffffff → idOf (number.Value v) ≡ ok v
+id-right v h i = rw (le-leb 1 v h, le-leb v 0x7fffffff i)
+
+module _ (image : List ℕ) (newest : Chunk) where
+  -- ## Where a chunk is
+  pub place-told : (c : ℕ) (t : Told) → TellsOf image newest 8 c t → placeSaid (locatedBy t) ≡ chunkAt image newest 8 c
+  unfolding chunkAt TellsOf locatedBy
+  place-told c (told.At l n) (h, d) = sym (gated-open d 8 h)
+  place-told c (told.Refused r) t = sym t
+
+  -- ## A map's id and root
+  meta-found : (k : List ℕ) (at len n : ℕ) → Sought image newest 0 Text (newest .root) (text k) 8 (looked.Found at len n)
+      → (e : Entry) × (e .value ≡ record { at = at; len = len }) × (metaValue image newest k ≡ ok (some e))
+  unfolding Sought metaValue reader chunkAt
+  meta-found k at len n (e, i, h, g) = (e, i, gated-open g 8 h)
+
+  meta-absent : (k : List ℕ) (n : ℕ) → Sought image newest 0 Text (newest .root) (text k) 8 (looked.Absent n) → metaValue image newest k ≡ ok none
+  unfolding Sought metaValue reader chunkAt
+  meta-absent k n (h, g) = gated-open g 8 h
+
+  meta-refused : (k : List ℕ) {r : Refusal} → Sought image newest 0 Text (newest .root) (text k) 8 (looked.Refused r)
+      → metaValue image newest k ≡ refuse r
+  unfolding Sought metaValue reader chunkAt
+  meta-refused k s = s
+
+  id-by : (k : List ℕ) (f : Looked) → Sought image newest 0 Text (newest .root) (text k) 8 f
+      → idBy image f ≡ bind (metaValue image newest k) (namedId image)
+  unfolding idBy
+  id-by k (looked.Found at len n) s = let m = meta-found k at len n s in rw (m .2, m .1)
+  id-by k (looked.Absent n) s = rw (meta-absent k n s)
+  id-by k (looked.Refused r) s = rw (meta-refused k s)
+
+  root-by : (k : List ℕ) (f : Looked) → Sought image newest 0 Text (newest .root) (text k) 8 f
+      → rootBy image f ≡ bind (metaValue image newest k) (namedRoot image)
+  unfolding rootBy
+  root-by k (looked.Found at len n) s = let m = meta-found k at len n s in rw (m .2, m .1)
+  root-by k (looked.Absent n) s = rw (meta-absent k n s)
+  root-by k (looked.Refused r) s = rw (meta-refused k s)
+
+  module _ (bytes : List ℕ) (f : Looked) (s : Sought image newest 0 Text (newest .root) (keyOf Text bytes) 8 f) where
+    pub id-sought : (name : List ℕ) → length name ≤ 1000 → bytes ≡ nameKey name → idBy image f ≡ namedMap image newest name
+    unfolding namedMap mapId keyOf
+    id-sought name h e = rw (le-ltb 1000 (length name) h) (id-by (nameKey name) f (rw e at s))
+
+    pub root-sought : (map : ℕ) → ¬ (map ≡ 0) → bytes ≡ rootKey map → rootBy image f ≡ mapRoot image newest map
+    unfolding mapRoot keyOf
+    root-sought map h e = rw (ne-eqb map 0 h) (root-by (rootKey map) f (rw e at s))
+
+  pub name-long : (name : List ℕ) → 1000 < length name → namedMap image newest name ≡ refuse badArgument
+  unfolding namedMap
+  name-long name h = rw (lt-ltb 1000 (length name) h)
+
+  pub root-metadata : (map : ℕ) → map ≡ 0 → mapRoot image newest map ≡ ok (newest .root)
+  unfolding mapRoot
+  root-metadata map e = rw (eq-eqb map 0 e)

@@ -1,0 +1,10 @@
+pub mod Store
+pub mod Memory
+pub mod Steps
+pub mod Keys
+pub mod KeyLaws
+pub mod MemoryLaws
+pub mod SettleLaws
+pub mod StepLaws
+pub mod CycleLaws
+pub mod AnswerLaws

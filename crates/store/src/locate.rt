@@ -1,0 +1,96 @@
+// Locating a chunk and a descent, which ask each other. What was located is remembered in an array
+// that the caller lends; `q` is how many questions may still be opened.
+use super::Looked;
+use super::Told;
+use super::keys::number_key;
+use super::memory::Recalled;
+use super::memory::recall;
+use super::settle::place_of;
+use super::settle::settle;
+use super::step::Advance;
+use super::step::advance_at;
+use key::Kind;
+use opening::Chunk;
+use position::Position;
+use refusal::Refusal;
+ghost use Prim.Native.Nat.{_≤_};
+ghost use mathlib.Core.Path.{_≡_};
+ghost use Rattle.key.specs.Key.{keyOf};
+ghost use Rattle.store.specs.Memory.{RightWords, TellsOf, Sought};
+
+// Where chunk `c` is. The newest is known, others may be remembered; any other is asked for in the
+// metadata, which is one more open question.
+pub(crate) fn locate(image: &[u8], newest: Chunk, memory: &mut [u64; 512], c: u32, q: u32) -> Told
+    requires { ⌜ (q ≤ 8) × RightWords (now image) newest (now memory) ⌝ }
+    ensures { λ r. ⌜ RightWords (now (image .entry)) newest (now (memory .exit)) × TellsOf (now (image .entry)) newest q c r ⌝ }
+{
+    if c == newest.id {
+        return Told::At {
+            place: place_of(newest),
+            need: 0,
+        };
+    }
+    let r = recall(memory, c);
+    if let Recalled::At { place, need } = r {
+        if q < need {
+            return Told::Refused(Refusal::new(Refusal::NINTH_QUESTION));
+        }
+        return Told::At { place, need };
+    }
+    if q == 0 {
+        return Told::Refused(Refusal::new(Refusal::NINTH_QUESTION));
+    }
+    let mut key = [0u8; 1024];
+    let n = number_key(&mut key, b"chunk.", c as u64);
+    let f = descend(
+        image,
+        newest,
+        memory,
+        newest.root,
+        0,
+        Kind::Text,
+        &key[..n],
+        q - 1,
+    );
+    settle(image, memory, c, f)
+}
+
+// A lookup of `key` in the map whose root is given: one page a turn, at most 16.
+pub(crate) fn descend(
+    image: &[u8],
+    newest: Chunk,
+    memory: &mut [u64; 512],
+    root: u64,
+    map: u32,
+    kind: Kind,
+    key: &[u8],
+    q: u32,
+) -> Looked
+    requires { ⌜ (q ≤ 8) × RightWords (now image) newest (now memory) ⌝ }
+    ensures { λ r. ⌜ RightWords (now (image .entry)) newest (now (memory .exit)) × Sought (now (image .entry)) newest map kind root (keyOf kind (now (key .entry))) q r ⌝ }
+{
+    if root == 0 {
+        return Looked::Absent { need: 0 };
+    }
+    let mut p = root;
+    let mut need: u32 = 0;
+    let mut left: u32 = 16;
+    while 0 < left {
+        if p == 0 {
+            return Looked::Refused(Refusal::new(Refusal::PLACE));
+        }
+        let l = locate(image, newest, memory, Position { bits: p }.chunk(), q);
+        let a = advance_at(image, l, need, p, map, kind, key);
+        match a {
+            Advance::To { position, need: n } => {
+                p = position;
+                need = n;
+            }
+            Advance::Done(r) => {
+                return r;
+            }
+        }
+        left -= 1;
+    }
+    Looked::Refused(Refusal::new(Refusal::TOO_DEEP))
+}
