@@ -94,33 +94,33 @@ descend-meets t = descend-lts.spec (
     (λ c. let a = c .before .before .before .before .before .before .args in let l = c .before .before .loop in (l .inv .0, sought-deep (now (a .image)) (a .newest) (a .map) (a .kind) (a .root) (keyOf (a .kind) (now (a .key))) (a .q) (l .left) (omega arith) (l .inv .1) (c .new2 .ensures)))
 
 locate-meets : {M : Type 1} (t : ℕ) → locate-lts.Closed (
-  place-of-reads.Asked,
-  place-of-reads.Learnt,
-  recall-reads.Asked,
-  recall-reads.Learnt,
-  new-reads.Asked,
-  new-reads.Learnt,
-  number-key-reads.Asked,
-  number-key-reads.Learnt,
-  descend-below t,
-  descend.Post,
-  settle-reads.Asked,
-  settle-reads.Learnt,
-) (locate-at t) locate.Post M
+      place-of-reads.Asked,
+      place-of-reads.Learnt,
+      recall-reads.Asked,
+      recall-reads.Learnt,
+      new-reads.Asked,
+      new-reads.Learnt,
+      number-key-reads.Asked,
+      number-key-reads.Learnt,
+      descend-below t,
+      descend.Post,
+      settle-reads.Asked,
+      settle-reads.Learnt,
+    ) (locate-at t) locate.Post M
 locate-meets t = locate-lts.spec (
-  place-of-reads.Asked,
-  place-of-reads.Learnt,
-  recall-reads.Asked,
-  recall-reads.Learnt,
-  new-reads.Asked,
-  new-reads.Learnt,
-  number-key-reads.Asked,
-  number-key-reads.Learnt,
-  descend-below t,
-  descend.Post,
-  settle-reads.Asked,
-  settle-reads.Learnt,
-)
+      place-of-reads.Asked,
+      place-of-reads.Learnt,
+      recall-reads.Asked,
+      recall-reads.Learnt,
+      new-reads.Asked,
+      new-reads.Learnt,
+      number-key-reads.Asked,
+      number-key-reads.Learnt,
+      descend-below t,
+      descend.Post,
+      settle-reads.Asked,
+      settle-reads.Learnt,
+    )
     (locate-at t)
     locate.Post
     (λ c κs. search needs)
