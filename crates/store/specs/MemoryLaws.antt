@@ -1,9 +1,9 @@
 -- Laws of the memory: what the words hold is known, before and after a chunk is remembered.
 --
 --   recalled-X     what the places hold of a chunk, a law for each way that the code takes
---   X-right        the words hold what is known: of an empty memory; with a chunk more; after the metadata's answer for a chunk
+--   X-right        the words hold what is known: of an empty memory; with a chunk more
 use Prim.Native.Nat.{ℕ, zero, suc, _+_, _*_, _-_, _/_, _%_, _^_, _<_, _≤_}
-use mathlib.Core.Path.{_≡_, refl, sym, ap, _∙_}
+use mathlib.Core.Path.{_≡_, refl, _∙_}
 use mathlib.Core.Bool.{Bool, true, false, cond}
 use mathlib.Core.List.{List}
 use native.Mathlib.Numerals.{sub-one}
@@ -15,7 +15,6 @@ use borrow.Author.Tests.{eqb-true, eqb-false, eq-eqb, ne-eqb}
 use Rattle.locating.specs.Known.{Known}
 use Rattle.opening.specs.declared.chunk.Chunk.{Chunk}
 use Rattle.page.specs.declared.Place.{Place}
-use Rattle.store.specs.declared.memory.Recalled.{Recalled}
 use Rattle.store.specs.declared.memory.Recalled.the-variants.{At, Free, Full}
 use Rattle.store.specs.Store.{metadata}
 use Rattle.store.specs.Memory.{places, chunkIn, needIn, placeIn, firstWord, secondWord, recalledFrom, recalledIn, keptAt, RightWords}

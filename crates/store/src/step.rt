@@ -61,7 +61,15 @@ fn step_at(image: &[u8], place: Place, p: u64, map: u32, kind: Kind, key: &[u8])
 }
 
 // A descent after the page at `p`, whose chunk `l` tells of; `need` is what it took so far.
-pub fn advance_at(image: &[u8], l: Told, need: u32, p: u64, map: u32, kind: Kind, key: &[u8]) -> Advance
+pub fn advance_at(
+    image: &[u8],
+    l: Told,
+    need: u32,
+    p: u64,
+    map: u32,
+    kind: Kind,
+    key: &[u8],
+) -> Advance
     ensures { λ r. ⌜ r ≡ advanceOf (λ x. stepOf (keyOf kind (now (key .entry))) (pageIn (now (image .entry)) x p map kind)) need l ⌝ }
 {
     match l {

@@ -7,13 +7,14 @@ use Rattle.store.proofs.keys.name_key.Tie as tie
 
 put-requires-2 : tie.Need-put-requires-2
 put-requires-2 c κs =
-    let a = c .before .before .before .before .before .args in
-    (rw (c .before .put .ensures) (begun-size (a .key .now) prefixName (c .before .before .before .before .before .pre .0) (omega arith)), omega arith)
+    let s = c .before .before .before .before .before in
+    (rw (c .before .put .ensures) (begun-size (s .args .key .now) prefixName (s .pre .0) (omega arith)), omega arith)
 
 returns : tie.Need-returns
 returns c =
-    let a = c .before .before .before .before .before .before .args in
-    rw (c .put2 .ensures, c .before .before .put .ensures) (key-built (a .key .now) prefixName (c .before .before .before .before .before .before .pre .0) (omega arith) (a .name .now) (omega arith))
+    let s = c .before .before .before .before .before .before in
+    rw (c .put2 .ensures, c .before .before .put .ensures)
+    (key-built (s .args .key .now) prefixName (s .pre .0) (omega arith) (s .args .name .now) (omega arith))
 
 pub name-key-spec : {M : Type 1} → statement M
 name-key-spec =

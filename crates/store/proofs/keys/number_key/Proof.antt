@@ -1,3 +1,4 @@
+use Prim.Native.Nat.{_+_, _≤_}
 use native.Mathlib.Omega.{arith}
 use mathlib.Core.Path.{_≡_, ap, _∙_}
 use lib.ListN.{length}
@@ -10,13 +11,20 @@ use Rattle.store.proofs.keys.number_key.Tie as tie
 
 put-requires-2 : tie.Need-put-requires-2
 put-requires-2 c κs =
-    let e : c .before .tail .result .now ≡ hexText (c .before .before .before .before .before .before .before .before .args .n) = c .before .tail .ensures ∙ c .before .before .before .before .write-hex .ensures .text in
-    (rw (c .before .before .before .before .before .put .ensures) (begun-size (c .before .before .before .before .before .before .before .before .args .key .now) (c .before .before .before .before .before .before .before .before .args .prefix .now) (c .before .before .before .before .before .before .before .before .pre .0) (omega arith)), omega (arith, ap length e, hexText-length (c .before .before .before .before .before .before .before .before .args .n) .1))
+    let s = c .before .before .before .before .before .before .before .before in
+    let e : c .before .tail .result .now ≡ hexText (s .args .n) = c .before .tail .ensures ∙ c .before .before .before .before .write-hex .ensures .text in (
+      rw (c .before .before .before .before .before .put .ensures) (begun-size (s .args .key .now) (s .args .prefix .now) (s .pre .0) (omega arith)),
+      omega (arith, ap length e, hexText-length (s .args .n) .1),
+    )
 
 returns : tie.Need-returns
 returns c =
-    let e : c .before .before .tail .result .now ≡ hexText (c .before .before .before .before .before .before .before .before .before .args .n) = c .before .before .tail .ensures ∙ c .before .before .before .before .before .write-hex .ensures .text in
-    rw (c .put2 .ensures, c .before .before .before .before .before .before .put .ensures, ← e) (key-built (c .before .before .before .before .before .before .before .before .before .args .key .now) (c .before .before .before .before .before .before .before .before .before .args .prefix .now) (c .before .before .before .before .before .before .before .before .before .pre .0) (omega arith) (c .before .before .tail .result .now) (omega (arith, ap length e, hexText-length (c .before .before .before .before .before .before .before .before .before .args .n) .1)))
+    let s = c .before .before .before .before .before .before .before .before .before in
+    let d = c .before .before .tail .result .now in
+    let e : d ≡ hexText (s .args .n) = c .before .before .tail .ensures ∙ c .before .before .before .before .before .write-hex .ensures .text in
+    let fits : length (s .args .prefix .now) + length d ≤ 1024 = omega (arith, ap length e, hexText-length (s .args .n) .1) in
+    rw (c .put2 .ensures, c .before .before .before .before .before .before .put .ensures, ← e)
+    (key-built (s .args .key .now) (s .args .prefix .now) (s .pre .0) (omega arith) d fits)
 
 pub number-key-spec : {M : Type 1} → statement M
 number-key-spec =

@@ -4,7 +4,6 @@ use Prim.Native.Nat.{_-_, _≤_}
 use mathlib.Core.Path.{_≡_}
 use lib.ListN.{length}
 use lib.Seq.{paste, paste-zero, paste-suc}
-use denote.Ref.{now}
 use borrow.Author.Needs.{needs}
 use Rattle.store.proofs.keys.put.Statement.{statement}
 use Rattle.store.proofs.keys.put.Tie as tie
@@ -25,7 +24,10 @@ loop-again c =
     (omega arith, rw (l .inv .1, add-one (l .i)) (paste-suc (a .key .now) (a .at) (a .s .now) (l .i) 0 (omega arith) (omega arith)))
 
 returns : tie.Need-returns Inv-loop μ-loop
-returns c = let e : c .before .loop .i ≡ length (c .before .before .args .s .now) = omega arith in rw (c .before .loop .inv .1, e)
+returns c =
+    let l = c .before .loop in
+    let e : l .i ≡ length (c .before .before .args .s .now) = omega arith in
+    rw (l .inv .1, e)
 
 pub put-spec : {M : Type 1} → statement M
 put-spec =

@@ -1,8 +1,6 @@
-use Prim.Native.Nat.{ℕ}
-use Prim.Native.Nat.{_-_}
-use lib.ListN.{length, drop}
+use Prim.Native.Nat.{ℕ, _-_}
 use native.Mathlib.Omega.{arith}
-use lib.ListN.{length-drop, drop-of-length-le}
+use lib.ListN.{length, drop, length-drop, drop-of-length-le}
 use lib.Seq.{take-all, take-nil}
 use borrow.Author.Needs.{needs}
 use Rattle.store.proofs.keys.tail.Statement.{statement}
@@ -10,8 +8,10 @@ use Rattle.store.proofs.keys.tail.Tie as tie
 
 returns : tie.Need-returns
 returns c =
-    let n = length (c .before .before .args .s .now) in
-    rw (drop-of-length-le (c .before .before .args .s .now) {i = c .before .before .args .at} (c .before .if1 .taken), drop-of-length-le (c .before .before .args .s .now) {i = length (c .before .before .args .s .now)} (omega arith)) (take-nil {A = ℕ} (n - n))
+    let s = c .before .before .args .s .now in
+    let n = length s in
+    rw (drop-of-length-le s {i = c .before .before .args .at} (c .before .if1 .taken), drop-of-length-le s {i = n} (omega arith))
+    (take-nil {A = ℕ} (n - n))
 
 returns-2 : tie.Need-returns-2
 returns-2 c =

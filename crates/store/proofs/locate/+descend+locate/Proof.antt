@@ -1,4 +1,4 @@
-use Prim.Native.Nat.{_+_, _*_, _-_}
+use Prim.Native.Nat.{ℕ, _+_, _*_, _-_, _<_}
 use mathlib.Core.Path.{_≡_, sym, _∙_}
 use native.Mathlib.Omega.{arith}
 use denote.Ref.{now}
@@ -9,7 +9,6 @@ use Rattle.store.specs.Memory.{RightWords}
 use Rattle.store.specs.SettleLaws.{sought-few}
 use Rattle.store.specs.CycleLaws.{Came, came-root, came-on, sought-empty, sought-zero, sought-deep, sought-done}
 use Rattle.store.specs.CycleLaws.{tells-newest, tells-few, tells-recalled, tells-ninth, tells-settled}
-use Prim.Native.Nat.{ℕ, _<_}
 use borrow.Fn.Kinds.{In}
 use borrow.Fn.PlainCycle.{Measures, is, falls, and}
 use Rattle.store.proofs.locate.descend.Reads as descend
@@ -77,69 +76,100 @@ descend-meets t = descend-lts.spec (
     descend.Post
     descend-Inv-loop
     descend-μ-loop
-    (λ c. let a = c .before .before .before .args in (c .before .before .before .pre .1 .1, sought-empty (now (a .image)) (a .newest) (a .map) (a .kind) (a .root) (keyOf (a .kind) (now (a .key))) (a .q) (c .if1 .taken)))
-    (λ c. let a = c .before .before .before .args in (c .before .before .before .pre .1 .1, came-root (now (a .image)) (a .newest) (a .map) (a .kind) (a .root) (keyOf (a .kind) (now (a .key))) (a .q) (c .if1 .left)))
+    (λ c.
+    let a = c .before .before .before .args in
+    (c .before .before .before .pre .1 .1, sought-empty (now (a .image)) (a .newest) (a .map) (a .kind) (a .root) (keyOf (a .kind) (now (a .key))) (a .q) (c .if1 .taken)))
+    (λ c.
+    let a = c .before .before .before .args in
+    (c .before .before .before .pre .1 .1, came-root (now (a .image)) (a .newest) (a .map) (a .kind) (a .root) (keyOf (a .kind) (now (a .key))) (a .q) (c .if1 .left)))
     (λ c κs. search needs)
-    (λ c. let a = c .before .before .before .before .before .before .before .args in let l = c .before .before .before .loop in (l .inv .0, sought-zero (now (a .image)) (a .newest) (a .map) (a .kind) (a .root) (keyOf (a .kind) (now (a .key))) (a .q) (l .left) (l .p) (omega arith) (c .before .if2 .taken) (l .inv .1) (c .new .ensures)))
+    (λ c.
+    let a = c .before .before .before .before .before .before .before .args in
+    let l = c .before .before .before .loop in
+    (l .inv .0, sought-zero (now (a .image)) (a .newest) (a .map) (a .kind) (a .root) (keyOf (a .kind) (now (a .key))) (a .q) (l .left) (l .p) (omega arith) (c .before .if2 .taken) (l .inv .1) (c .new .ensures)))
     (λ c κs. search needs)
     (λ c κs. (omega (arith, c .before .before .before .before .before .before .before .before .pre .0), (omega (arith, c .before .before .before .before .before .before .before .before .pre .1 .0), c .before .before .before .before .loop .inv .0)))
     (λ c κs. search needs)
     (λ c. search needs)
     (λ c. search needs)
-    (λ c. let a = c .before .before .before .before .before .before .before .before .before .before .before .before .before .args in let l = c .before .before .before .before .before .before .before .before .before .loop in (c .before .before .before .before .locate .ensures .0, sought-done (now (a .image)) (a .newest) (a .map) (a .kind) (a .root) (keyOf (a .kind) (now (a .key))) (a .q) (l .need) (l .left) (l .p) _ (c .before .before .before .before .locate .result) (c .before .before .before .advance-at .result) (omega arith) (c .before .before .before .before .before .before .before .if2 .left) (l .inv .1) (c .before .before .before .before .before .chunk .ensures) (c .before .before .before .before .locate .ensures .1) (c .before .before .before .advance-at .ensures) (c .before .a2 .given .1)))
+    (λ c.
+    let a = c .before .before .before .before .before .before .before .before .before .before .before .before .before .args in
+    let l = c .before .before .before .before .before .before .before .before .before .loop in
+    (c .before .before .before .before .locate .ensures .0, sought-done (now (a .image)) (a .newest) (a .map) (a .kind) (a .root) (keyOf (a .kind) (now (a .key))) (a .q) (l .need) (l .left) (l .p) _ (c .before .before .before .before .locate .result) (c .before .before .before .advance-at .result) (omega arith) (c .before .before .before .before .before .before .before .if2 .left) (l .inv .1) (c .before .before .before .before .before .chunk .ensures) (c .before .before .before .before .locate .ensures .1) (c .before .before .before .advance-at .ensures) (c .before .a2 .given .1)))
     (λ c. search needs)
     (λ c. search needs)
-    (λ c. let a = c .before .before .before .before .before .before .before .before .before .before .before .before .before .args in let l = c .before .before .before .before .before .before .before .before .before .loop in (c .before .before .before .before .locate .ensures .0, came-on (now (a .image)) (a .newest) (a .map) (a .kind) (a .root) (keyOf (a .kind) (now (a .key))) (a .q) (l .need) (l .left) (l .p) _ (c .before .before .before .before .locate .result) (c .before .before .before .advance-at .result) (omega arith) (c .before .before .before .before .before .before .before .if2 .left) (l .inv .1) (c .before .before .before .before .before .chunk .ensures) (c .before .before .before .before .locate .ensures .1) (c .before .before .before .advance-at .ensures) (c .before .a .given .1)))
+    (λ c.
+    let a = c .before .before .before .before .before .before .before .before .before .before .before .before .before .args in
+    let l = c .before .before .before .before .before .before .before .before .before .loop in
+    (c .before .before .before .before .locate .ensures .0, came-on (now (a .image)) (a .newest) (a .map) (a .kind) (a .root) (keyOf (a .kind) (now (a .key))) (a .q) (l .need) (l .left) (l .p) _ (c .before .before .before .before .locate .result) (c .before .before .before .advance-at .result) (omega arith) (c .before .before .before .before .before .before .before .if2 .left) (l .inv .1) (c .before .before .before .before .before .chunk .ensures) (c .before .before .before .before .locate .ensures .1) (c .before .before .before .advance-at .ensures) (c .before .a .given .1)))
     (λ c κs. search needs)
-    (λ c. let a = c .before .before .before .before .before .before .args in let l = c .before .before .loop in (l .inv .0, sought-deep (now (a .image)) (a .newest) (a .map) (a .kind) (a .root) (keyOf (a .kind) (now (a .key))) (a .q) (l .left) (omega arith) (l .inv .1) (c .new2 .ensures)))
+    (λ c.
+    let a = c .before .before .before .before .before .before .args in
+    let l = c .before .before .loop in
+    (l .inv .0, sought-deep (now (a .image)) (a .newest) (a .map) (a .kind) (a .root) (keyOf (a .kind) (now (a .key))) (a .q) (l .left) (omega arith) (l .inv .1) (c .new2 .ensures)))
 
 locate-meets : {M : Type 1} (t : ℕ) → locate-lts.Closed (
-      place-of-reads.Asked,
-      place-of-reads.Learnt,
-      recall-reads.Asked,
-      recall-reads.Learnt,
-      new-reads.Asked,
-      new-reads.Learnt,
-      number-key-reads.Asked,
-      number-key-reads.Learnt,
-      descend-below t,
-      descend.Post,
-      settle-reads.Asked,
-      settle-reads.Learnt,
-    ) (locate-at t) locate.Post M
+  place-of-reads.Asked,
+  place-of-reads.Learnt,
+  recall-reads.Asked,
+  recall-reads.Learnt,
+  new-reads.Asked,
+  new-reads.Learnt,
+  number-key-reads.Asked,
+  number-key-reads.Learnt,
+  descend-below t,
+  descend.Post,
+  settle-reads.Asked,
+  settle-reads.Learnt,
+) (locate-at t) locate.Post M
 locate-meets t = locate-lts.spec (
-      place-of-reads.Asked,
-      place-of-reads.Learnt,
-      recall-reads.Asked,
-      recall-reads.Learnt,
-      new-reads.Asked,
-      new-reads.Learnt,
-      number-key-reads.Asked,
-      number-key-reads.Learnt,
-      descend-below t,
-      descend.Post,
-      settle-reads.Asked,
-      settle-reads.Learnt,
-    )
+  place-of-reads.Asked,
+  place-of-reads.Learnt,
+  recall-reads.Asked,
+  recall-reads.Learnt,
+  new-reads.Asked,
+  new-reads.Learnt,
+  number-key-reads.Asked,
+  number-key-reads.Learnt,
+  descend-below t,
+  descend.Post,
+  settle-reads.Asked,
+  settle-reads.Learnt,
+)
     (locate-at t)
     locate.Post
     (λ c κs. search needs)
-    (λ c. let a = c .before .before .before .before .args in (c .before .before .before .before .pre .1 .1, tells-newest (now (a .image)) (a .newest) (a .q) (a .c) (c .before .if1 .taken) (c .place-of .result) (c .place-of .ensures)))
+    (λ c.
+    let a = c .before .before .before .before .args in
+    (c .before .before .before .before .pre .1 .1, tells-newest (now (a .image)) (a .newest) (a .q) (a .c) (c .before .if1 .taken) (c .place-of .result) (c .place-of .ensures)))
     (λ c κs. search needs)
     (λ c. search needs)
     (λ c κs. search needs)
-    (λ c. let a = c .before .before .before .before .before .before .before .before .before .before .args in let g = c .before .before .before .before .before .before .before .before .before .before .pre .1 .1 in (g, tells-few (now (a .image)) (a .newest) (a .q) (a .c) g (sym (c .before .before .before .before .before .recall .ensures) ∙ c .before .before .before .r .given .1) (c .before .if2 .taken) (c .new .ensures)))
-    (λ c. let a = c .before .before .before .before .before .before .before .before .before .args in let g = c .before .before .before .before .before .before .before .before .before .pre .1 .1 in (g, tells-recalled (now (a .image)) (a .newest) (a .q) (a .c) g (sym (c .before .before .before .before .recall .ensures) ∙ c .before .before .r .given .1) (c .if2 .left)))
+    (λ c.
+    let a = c .before .before .before .before .before .before .before .before .before .before .args in
+    let g = c .before .before .before .before .before .before .before .before .before .before .pre .1 .1 in
+    (g, tells-few (now (a .image)) (a .newest) (a .q) (a .c) g (sym (c .before .before .before .before .before .recall .ensures) ∙ c .before .before .before .r .given .1) (omega (arith, c .before .if2 .taken, c .before .before .before .before .before .before .before .before .before .before .pre .1 .0)) (c .new .ensures)))
+    (λ c.
+    let a = c .before .before .before .before .before .before .before .before .before .args in
+    let g = c .before .before .before .before .before .before .before .before .before .pre .1 .1 in
+    (g, tells-recalled (now (a .image)) (a .newest) (a .q) (a .c) g (sym (c .before .before .before .before .recall .ensures) ∙ c .before .before .r .given .1) (omega (arith, c .if2 .left))))
     (λ c κs. search needs)
-    (λ c. let a = c .before .before .before .before .before .before .before .before .args in (c .before .before .before .before .before .before .before .before .pre .1 .1, tells-ninth (now (a .image)) (a .newest) (a .q) (a .c) (c .before .before .before .before .before .if1 .left) (c .before .if3 .taken) (c .new2 .ensures)))
+    (λ c.
+    let a = c .before .before .before .before .before .before .before .before .args in
+    (c .before .before .before .before .before .before .before .before .pre .1 .1, tells-ninth (now (a .image)) (a .newest) (a .q) (a .c) (c .before .before .before .before .before .if1 .left) (c .before .if3 .taken) (c .new2 .ensures)))
     (λ c. search needs)
     (λ c κs. search needs)
     (λ c. c .before .number-key .ensures .inside)
     (λ c. sym (length-take-le _ _ (c .before .before .number-key .ensures .inside)))
     (λ c. search needs)
     (λ c κs. (omega (arith, c .before .before .before .before .before .before .before .before .before .before .before .before .pre .0), (omega (arith, c .before .before .before .before .before .before .before .before .before .before .before .before .pre .1 .0), c .before .before .before .before .before .before .before .before .before .before .before .before .pre .1 .1)))
-    (λ c κs. let a = c .before .before .before .before .before .before .before .before .before .before .before .before .before .before .args in omega (arith, sought-few (now (a .image)) (a .newest) _ _ _ _ (a .q - 1) (c .before .descend .result) (c .before .descend .ensures .1), c .before .before .before .before .before .before .before .before .before .before .before .before .before .before .pre .1 .0))
-    (λ c. let a = c .before .before .before .before .before .before .before .before .before .before .before .before .before .before .before .args in let d = c .before .before .descend in tells-settled (now (a .image)) (a .newest) (a .q) (a .c) _ (d .result) (c .before .before .before .before .before .before .before .before .before .before .before .before .if1 .left) (c .before .before .before .before .before .before .before .before .if3 .left) (c .before .before .before .before .before .before .before .before .before .before .before .before .before .before .before .pre .1 .0) (d .ensures .0) _ (c .before .before .before .before .before .number-key .ensures .text) (d .ensures .1) (c .settle .result) _ (c .settle .ensures .0) (c .settle .ensures .1))
+    (λ c κs.
+    let a = c .before .before .before .before .before .before .before .before .before .before .before .before .before .before .args in
+    omega (arith, sought-few (now (a .image)) (a .newest) _ _ _ _ (a .q - 1) (c .before .descend .result) (c .before .descend .ensures .1), c .before .before .before .before .before .before .before .before .before .before .before .before .before .before .pre .1 .0))
+    (λ c.
+    let a = c .before .before .before .before .before .before .before .before .before .before .before .before .before .before .before .args in
+    let d = c .before .before .descend in
+    tells-settled (now (a .image)) (a .newest) (a .q) (a .c) _ (d .result) (c .before .before .before .before .before .before .before .before .before .before .before .before .if1 .left) (c .before .before .before .before .before .before .before .before .if3 .left) (c .before .before .before .before .before .before .before .before .before .before .before .before .before .before .before .pre .1 .0) (d .ensures .0) _ (c .before .before .before .before .before .number-key .ensures .text) (d .ensures .1) (c .settle .result) _ (c .settle .ensures .0) (c .settle .ensures .1))
 
 pub +descend+locate-spec : {M : Type 1} → statement M
 +descend+locate-spec = close μ-descend μ-locate descend-meets locate-meets

@@ -25,12 +25,16 @@ returns-2 : tie.Need-returns-2 Inv-loop μ-loop
 returns-2 c =
     let l = c .before .before .before .before .before .before .loop in
     let a = c .before .before .before .before .before .before .before .args in
-    rw (c .place-in .ensures) (sym (recalled-this (a .memory .now) (a .c) (256 - l .i) (l .i) (omega arith) (c .before .before .before .if1 .left) (c .before .before .if2 .taken)) ∙ l .inv .1)
+    let this = recalled-this (a .memory .now) (a .c) (256 - l .i) (l .i) (omega arith) (c .before .before .before .if1 .left) (c .before .before .if2 .taken) in
+    rw (c .place-in .ensures) (sym this ∙ l .inv .1)
 
 loop-again : tie.Need-loop-again Inv-loop μ-loop
 loop-again c =
-    let e : 256 - c .before .before .before .before .loop .i - 1 ≡ 256 - (c .before .before .before .before .loop .i + 1) = omega arith in
-    (omega arith, rw (← e) (sym (recalled-other (c .before .before .before .before .before .args .memory .now) (c .before .before .before .before .before .args .c) (256 - c .before .before .before .before .loop .i) (c .before .before .before .before .loop .i) (omega arith) (c .before .if1 .left) (c .if2 .left)) ∙ c .before .before .before .before .loop .inv .1))
+    let l = c .before .before .before .before .loop in
+    let a = c .before .before .before .before .before .args in
+    let e : 256 - l .i - 1 ≡ 256 - (l .i + 1) = omega arith in
+    let other = recalled-other (a .memory .now) (a .c) (256 - l .i) (l .i) (omega arith) (c .before .if1 .left) (c .if2 .left) in
+    (omega arith, rw (← e) (sym other ∙ l .inv .1))
 
 returns-3 : tie.Need-returns-3 Inv-loop μ-loop
 returns-3 c =

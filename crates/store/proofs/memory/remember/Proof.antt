@@ -7,14 +7,16 @@ use Rattle.store.proofs.memory.remember.Tie as tie
 
 keep-requires : tie.Need-keep-requires
 keep-requires c κs =
-    let a = c .before .before .before .before .before .before .args in
-    (omega (arith, free-inside (a .memory .now) (a .c) 256 0 _ (sym (c .before .before .before .before .recall .ensures) ∙ c .before .before .r .given .1)), c .before .before .before .before .before .before .pre .0, c .before .before .before .before .before .before .pre .1)
+    let s = c .before .before .before .before .before .before in
+    let free = sym (c .before .before .before .before .recall .ensures) ∙ c .before .before .r .given .1 in
+    (omega (arith, free-inside (s .args .memory .now) (s .args .c) 256 0 _ free), s .pre .0, s .pre .1)
 
 returns : tie.Need-returns
 returns c = rw (← c .before .before .recall .ensures, c .enum-told .given .1)
 
 returns-2 : tie.Need-returns-2
-returns-2 c = rw (← c .before .before .before .before .before .recall .ensures, c .before .before .before .r .given .1) (c .keep .ensures)
+returns-2 c =
+    rw (← c .before .before .before .before .before .recall .ensures, c .before .before .before .r .given .1) (c .keep .ensures)
 
 returns-3 : tie.Need-returns-3
 returns-3 c = rw (← c .before .before .recall .ensures, c .enum-told2 .given .1)

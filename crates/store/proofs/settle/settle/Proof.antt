@@ -10,18 +10,19 @@ use Rattle.store.proofs.settle.settle.Tie as tie
 
 returns : tie.Need-returns
 unfolding settledTold settledWords
-returns c = (rw (c .before .before .before .before .before .f2 .given .1, ← c .before .before .before .standing-by .ensures, c .before .enum-told2 .given .1) (ap Refused (c .new2 .ensures)), refl)
+returns c =
+    let found = c .before .before .before .before .before .f2 .given .1 in
+    (rw (found, ← c .before .before .before .standing-by .ensures, c .before .enum-told2 .given .1) (ap Refused (c .new2 .ensures)), refl)
 
 add-remember : tie.Need-add-remember
 add-remember c = omega (arith, ap needOf (c .before .before .before .before .before .before .before .f2 .given .1))
 
 remember-requires : tie.Need-remember-requires
 remember-requires c κs =
-    let h : Held (c .before .place-of .result) = rw (c .before .place-of .ensures) (standing-held (c .before .before .before .before .before .before .before .before .before .before .args .image .now) (c .before .before .before .before .before .before .before .before .before .before .args .n) _ (sym (c .before .before .before .before .before .standing-by .ensures) ∙ c .before .before .before .s .given .1)) in
+    let a = c .before .before .before .before .before .before .before .before .before .before .args in
+    let stands = sym (c .before .before .before .before .before .standing-by .ensures) ∙ c .before .before .before .s .given .1 in
+    let h : Held (c .before .place-of .result) = rw (c .before .place-of .ensures) (standing-held (a .image .now) (a .n) _ stands) in
     (h .block-small, omega (arith, ap needOf (c .before .before .before .before .before .before .before .f2 .given .1)))
-
-add-t17 : tie.Need-add-t17
-add-t17 c = omega (arith, ap needOf (c .before .before .before .before .before .before .before .before .f2 .given .1))
 
 returns-2 : tie.Need-returns-2
 unfolding settledTold settledWords
@@ -35,7 +36,10 @@ returns-3 c = (rw (c .before .enum-told .given .1) (ap Refused (c .new .ensures)
 
 returns-4 : tie.Need-returns-4
 unfolding settledTold settledWords
-returns-4 c = (rw (c .before .before .before .before .before .before .before .before .f2 .given .1, ← c .before .before .before .before .before .before .standing-by .ensures, c .before .before .before .before .s .given .1, c .before .before .place-of .ensures), c .remember .ensures)
+returns-4 c =
+    let found = c .before .before .before .before .before .before .before .before .f2 .given .1 in
+    let stands = c .before .before .before .before .s .given .1 in
+    (rw (found, ← c .before .before .before .before .before .before .standing-by .ensures, stands, c .before .before .place-of .ensures), c .remember .ensures)
 
 pub settle-spec : {M : Type 1} → statement M
 settle-spec =
@@ -53,7 +57,7 @@ settle-spec =
     (λ c κs. search needs)
     add-remember
     remember-requires
-    add-t17
+    (λ c. omega (arith, ap needOf (c .before .before .before .before .before .before .before .before .f2 .given .1)))
     returns-2
     returns-3
     returns-4)

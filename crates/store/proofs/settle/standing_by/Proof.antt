@@ -5,7 +5,10 @@ use Rattle.store.proofs.settle.standing_by.Tie as tie
 
 returns : tie.Need-returns
 unfolding standingBy
-returns c = rw (← c .before .before .before .before .before .before .area-at .ensures, ← c .before .before .before .before .before .read-fields .ensures, c .before .before .if1 .taken, ← c .before .stands-at .ensures) (c .with-id .ensures)
+returns c =
+    let f = c .before .before .before .before .before in
+    rw (← f .before .area-at .ensures, ← f .read-fields .ensures, c .before .before .if1 .taken, ← c .before .stands-at .ensures)
+    (c .with-id .ensures)
 
 returns-2 : tie.Need-returns-2
 unfolding standingBy
