@@ -5,6 +5,7 @@ pub mod build;
 pub mod check;
 pub mod exchange;
 pub mod family;
+pub mod lookups;
 pub mod model;
 pub mod openings;
 pub mod random;

@@ -1,0 +1,70 @@
+// The questions about an image.
+use super::input;
+use super::output;
+use key::Kind;
+use opening::Chunk;
+use opening::Opened;
+use position::Position;
+use refusal::Refusal;
+use store::Located;
+
+// `map HEX`.
+fn map(line: &[u8], image: &[u8], newest: Chunk) {
+    let mut name = [0u8; 1024];
+    let n = input::bytes(line, 1, &mut name);
+    output::id(store::map_id(image, newest, &name[..n]));
+}
+
+fn kind(line: &[u8]) -> Kind {
+    if input::number(line, 3) == 0 {
+        Kind::Number
+    } else {
+        Kind::Text
+    }
+}
+
+// `page POSITION ID KIND`; position 0 is out of place.
+fn page(line: &[u8], image: &[u8], newest: Chunk) {
+    let position = Position {
+        bits: input::number(line, 1),
+    };
+    if position.is_empty() {
+        output::refused(Refusal::new(Refusal::PLACE));
+        return;
+    }
+    match store::chunk_place(image, newest, position.chunk()) {
+        Located::At(place) => {
+            let map = input::small_number(line, 2);
+            output::judged(page::judge(image, place, position, map, kind(line)));
+        }
+        Located::Refused(r) => output::refused(r),
+    }
+}
+
+fn question(line: &[u8], image: &[u8], newest: Chunk) {
+    if input::is(line, b"map") {
+        map(line, image, newest);
+        return;
+    }
+    if input::is(line, b"root") {
+        output::root(store::map_root(image, newest, input::small_number(line, 1)));
+        return;
+    }
+    if input::is(line, b"chunk") {
+        output::located(store::chunk_place(image, newest, input::small_number(line, 1)));
+        return;
+    }
+    if input::is(line, b"page") {
+        page(line, image, newest);
+        return;
+    }
+    output::unknown();
+}
+
+// The line that answers a question, in an image that is opened for it.
+pub fn answer(line: &[u8], image: &[u8]) {
+    match opening::open(image) {
+        Opened::Newest(newest) => question(line, image, newest),
+        Opened::Refused(r) => output::refused(r),
+    }
+}

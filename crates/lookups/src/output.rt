@@ -1,0 +1,69 @@
+// What a question is answered.
+use super::input;
+use page::Judged;
+use refusal::Refusal;
+use store::Id;
+use store::Located;
+use store::Root;
+
+fn named(name: &[u8], value: u64) {
+    io::write_all(1, name);
+    io::print_decimal(1, value);
+    io::write_all(1, b"\n");
+}
+
+pub fn refused(r: Refusal) {
+    named(b"refused ", r.number as u64);
+}
+
+pub fn id(answer: Id) {
+    match answer {
+        Id::Is(n) => named(b"id ", n as u64),
+        Id::Refused(r) => refused(r),
+    }
+}
+
+pub fn root(answer: Root) {
+    match answer {
+        Root::At(position) => named(b"root ", position),
+        Root::Refused(r) => refused(r),
+    }
+}
+
+pub fn located(answer: Located) {
+    match answer {
+        Located::At(place) => named(b"block ", place.block as u64),
+        Located::Refused(r) => refused(r),
+    }
+}
+
+pub fn judged(answer: Judged) {
+    match answer {
+        Judged::Leaf {
+            n,
+            keys: _,
+            values: _,
+            end: _,
+        } => named(b"leaf ", n as u64),
+        Judged::Inner {
+            n,
+            positions: _,
+            counts: _,
+            keys: _,
+            end: _,
+            total: _,
+        } => { named(b"inner ", n as u64) }
+        Judged::Refused(r) => refused(r),
+    }
+}
+
+// The name of an image that begins.
+pub fn begun(line: &[u8]) {
+    io::write_all(1, input::word(line, 1));
+    io::write_all(1, b"\n");
+}
+
+// For an image that is too large, or a line that is not known.
+pub fn unknown() {
+    io::write_all(1, b"?\n");
+}
