@@ -8,3 +8,4 @@ pub mod SettleLaws
 pub mod StepLaws
 pub mod CycleLaws
 pub mod AnswerLaws
+pub mod ReaderLaws
