@@ -1,6 +1,7 @@
 //! Questions about sums, hex digits, big-endian and variable-size numbers, and positions.
 
 use super::bytes_word;
+use crate::build::page::variable;
 
 pub fn questions() -> Vec<String> {
     [sums(), fills(), hexes(), big_endians(), variables(), positions(), bounds(), checks()].concat()
@@ -117,18 +118,6 @@ fn variables() -> Vec<String> {
     }
     out.extend(["var 0 0 00", "var 1 0 00", "var 1 0 01"].map(String::from));
     out
-}
-
-/// A number in shortest form.
-fn variable(value: u64) -> Vec<u8> {
-    let mut bytes = Vec::new();
-    let mut rest = value;
-    while rest >= 0x80 {
-        bytes.push(rest as u8 | 0x80);
-        rest >>= 7;
-    }
-    bytes.push(rest as u8);
-    bytes
 }
 
 /// 01's example (d), each bit of a position alone, and fields at and past their widths.
