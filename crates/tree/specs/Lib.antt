@@ -4,6 +4,7 @@ pub mod Sound
 pub mod Examination
 pub mod Demand3
 pub mod InnerPage
+pub mod Walk
 pub mod AskingExamples
 pub mod ListLaws
 pub mod OutcomeLaws
