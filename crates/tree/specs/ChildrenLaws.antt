@@ -22,7 +22,7 @@ append-nil : {E : Type 0} (l : List E) → l ≡ l ++ []
 append-nil [] = refl
 append-nil (x ∷ l) = ap (x ∷_) (append-nil l)
 
-getD-tail : (l : List ℕ) (i : ℕ) → getD (drop 1 l) i 0 ≡ getD l (suc i) 0
+pub getD-tail : (l : List ℕ) (i : ℕ) → getD (drop 1 l) i 0 ≡ getD l (suc i) 0
 getD-tail [] i = refl
 getD-tail (x ∷ l) i = refl
 

@@ -9,6 +9,7 @@ pub mod AskingExamples
 pub mod ListLaws
 pub mod OutcomeLaws
 pub mod ChildrenLaws
+pub mod WalkLaws
 pub mod Meets
 pub mod BoundLaws
 pub mod FilledLaws
