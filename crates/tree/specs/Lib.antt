@@ -19,4 +19,5 @@ pub mod PassedLaws
 pub mod ExamineLaws
 pub mod ReachedLaws
 pub mod Theorem
+pub mod WalkTheorem
 pub mod Bounds
