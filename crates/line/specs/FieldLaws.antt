@@ -7,7 +7,7 @@ use mathlib.Core.Option.{Option, none, some}
 use mathlib.Core.Logic.{_⊎_, inl, inr}
 use native.Mathlib.Omega.{arith}
 use native.Mathlib.Numerals.{add-one}
-use native.Mathlib.Nat.{eq-or-lt-of-le, add-sub-cancel-left}
+use native.Mathlib.Nat.{eq-or-lt-of-le}
 use borrow.Author.Tests.{lt-ltb, le-ltb, ltb-true, ltb-false, eqb-true}
 use lib.Dec.{eqb, ltb}
 use lib.ListN.{length, getD, take, drop, length-drop, List·getD-eq-default}
@@ -49,13 +49,6 @@ parts-first line i = rw (length-part line i) (go (eq-or-lt-of-le (span-le (isNot
     go (inr h) =
         let k : i + n + 1 ≡ i + suc n = omega arith in
         rw (parts-more line (i + n) (omega (arith, length-drop i line)), k, ← drop-drop (suc n) i line) (split-more comma rest h)
-
-module _ (line : List ℕ) (i end : ℕ) (e : end ≡ i + span (isNot comma) (drop i line)) where
-  pub part-until : take (end - i) (drop i line) ≡ partFrom line i
-  part-until = rw (e, add-sub-cancel-left)
-
-  pub part-in : i ≤ length line → end ≤ length line
-  part-in h = omega (arith, span-le (isNot comma) (drop i line), length-drop i line)
 
 -- ## A field and the part that it is
 pub record Named (p : List ℕ) (f : Field) : Type 0 where

@@ -1,37 +1,16 @@
 -- Laws of how a line is read, one for each branch of the code.
-use Prim.Native.Nat.{ℕ, suc, _+_, _-_, _≤_, _<_}
+use Prim.Native.Nat.{ℕ, _+_, _-_, _≤_, _<_}
 use mathlib.Core.Path.{_≡_}
 use mathlib.Core.Bool.{true, false}
 use mathlib.Core.List.{List, _∷_}
-use native.Mathlib.Omega.{arith}
 use lib.ListN.{length, take, drop}
-use Rattle.text.specs.Text.{span, isNot, same, split}
+use Rattle.text.specs.Text.{same, split}
 use Rattle.line.specs.declared.field.Part.the-variants as part
 use Rattle.line.specs.Field.{comma, partFrom, partAt}
 use Rattle.line.specs.declared.read.Fields.{Fields}
 use Rattle.line.specs.Fields.{noFields}
-use Rattle.line.specs.Reading.{numberOf, slotOf, namedIn, put, seen, finish, partsAfter}
-use Rattle.line.specs.FieldLaws.{Placed, length-part, parts-more, parts-none, parts-first, part-until, part-bad}
-
--- ## The place of a name in a list that is written with commas
-module _ (names name : List ℕ) (i end : ℕ) (e : end ≡ i + span (isNot comma) (drop i names)) where
-  parts-end : split comma (drop i names) ≡ take (end - i) (drop i names) ∷ partsAfter names end
-  parts-end =
-      let w : end ≡ i + length (partFrom names i) = omega (arith, length-part names i) in
-      rw (part-until names i end e, w) (parts-first names i)
-
-  pub number-here : same (take (end - i) (drop i names)) name ≡ true → numberOf name (split comma (drop i names)) ≡ 0
-  unfolding numberOf
-  number-here h = rw (parts-end, h)
-
-  pub number-last : same (take (end - i) (drop i names)) name ≡ false → end ≡ length names → numberOf name (split comma (drop i names)) ≡ 1
-  unfolding numberOf
-  number-last h last = rw (parts-end, h, parts-none names end (omega arith))
-
-  pub number-on : same (take (end - i) (drop i names)) name ≡ false → end < length names →
-      numberOf name (split comma (drop i names)) ≡ suc (numberOf name (split comma (drop (end + 1) names)))
-  unfolding numberOf
-  number-on h more = rw (parts-end, h, parts-more names end more)
+use Rattle.line.specs.Reading.{slotOf, namedIn, put, seen, finish, partsAfter}
+use Rattle.line.specs.FieldLaws.{Placed, parts-more, parts-none, parts-first, part-bad}
 
 -- ## Whether a name comes later
 parts-placed : {line : List ℕ} {i colon value end : ℕ} → Placed line i colon value end →

@@ -65,6 +65,9 @@ same-known k name h = go (same (getD known k []) name) refl
         let z : _≡_ {A = ℕ} 0 1 = cc in
         omega arith))
 
+pub slot-here : (k : ℕ) (name : List ℕ) → k < 11 → same (getD known k []) name ≡ true → slotOf name ≡ k
+slot-here k name h e = eqb-true (slotOf name) k (sym (same-known k name h) ∙ e)
+
 eqb-comm : (a b : ℕ) → eqb a b ≡ eqb b a
 eqb-comm a b = go (eqb a b) refl
   where

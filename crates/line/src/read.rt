@@ -2,10 +2,8 @@
 use super::field::Part;
 use super::field::field_at;
 ghost use mathlib.Core.Path.{_≡_};
-ghost use Rattle.text.specs.Text.{split};
-ghost use Rattle.line.specs.Field.{comma};
 ghost use Rattle.line.specs.Fields.{readOf, noFields};
-ghost use Rattle.line.specs.Reading.{numberOf, slotOf, namedIn, put, seen, partsAfter};
+ghost use Rattle.line.specs.Reading.{slotOf, namedIn, put, seen, partsAfter};
 
 // What a line says of each known name, by the name's number: whether it is given, and its value.
 // A line that breaks a rule is not good and gives nothing.
@@ -66,33 +64,44 @@ impl Fields {
     }
 }
 
-// The place of `name` among `names`, which are joined by commas; their count where it is not there.
-fn number_of(names: &[u8], name: &[u8]) -> usize
-    ensures { λ r. ⌜ r ≡ numberOf (now (name .entry)) (split comma (now (names .entry))) ⌝ }
-{
-    let mut number = 0;
-    let mut i = 0;
-    loop {
-        let end = text::find_byte(names, i, 44);
-        if text::same_bytes(&names[i..end], name) {
-            return number;
-        }
-        number += 1;
-        if end == names.len() {
-            return number;
-        }
-        i = end + 1;
-    }
-}
-
 // The number of a name, `NAMES` for a name that is not known.
 fn slot_of(name: &[u8]) -> usize
     ensures { λ r. ⌜ r ≡ slotOf (now (name .entry)) ⌝ }
 {
-    number_of(
-        b"H,blockSize,format,block,chunk,version,len,next,pages,root,fletcher",
-        name,
-    )
+    if text::same_bytes(b"H", name) {
+        return Fields::H;
+    }
+    if text::same_bytes(b"blockSize", name) {
+        return Fields::BLOCK_SIZE;
+    }
+    if text::same_bytes(b"format", name) {
+        return Fields::FORMAT;
+    }
+    if text::same_bytes(b"block", name) {
+        return Fields::BLOCK;
+    }
+    if text::same_bytes(b"chunk", name) {
+        return Fields::CHUNK;
+    }
+    if text::same_bytes(b"version", name) {
+        return Fields::VERSION;
+    }
+    if text::same_bytes(b"len", name) {
+        return Fields::LEN;
+    }
+    if text::same_bytes(b"next", name) {
+        return Fields::NEXT;
+    }
+    if text::same_bytes(b"pages", name) {
+        return Fields::PAGES;
+    }
+    if text::same_bytes(b"root", name) {
+        return Fields::ROOT;
+    }
+    if text::same_bytes(b"fletcher", name) {
+        return Fields::FLETCHER;
+    }
+    Fields::NAMES
 }
 
 // Whether a field after the one that ends at `at` has the name `name`. A part that is no field ends the search.
