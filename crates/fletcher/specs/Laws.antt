@@ -1,10 +1,11 @@
 -- Laws of the sums, which proofs cite in place of the definitions.
-use Prim.Native.Nat.{ℕ, suc, _+_, _*_, _-_, _%_, _≤_, _<_}
+use Prim.Native.Nat.{ℕ, suc, _+_, _*_, _-_, _/_, _%_, _≤_, _<_}
 use mathlib.Core.Path.{_≡_, refl}
 use mathlib.Core.List.{List, [], _∷_}
 use mathlib.Core.Bool.{Bool, true, false, cond}
 use native.Mathlib.Numerals.{add-one, add-two}
 use native.Mathlib.Omega.{arith}
+use borrow.Author.Tests.{eqb-true, eqb-false}
 use lib.Dec.{eqb}
 use lib.ListN.{length, getD, drop, length-drop}
 use lib.Seq.{drop-cons}
@@ -42,6 +43,15 @@ reduced-small x = go (eqb (x % 65535) 0)
     go : (zero : Bool) → cond zero 65535 (x % 65535) ≤ 65535
     go true = omega arith
     go false = omega arith
+
+-- a sum of two reduced numbers is reduced by adding what is over 65535 to the rest
+pub reduced-fold : (x : ℕ) → 0 < x → x ≤ 131070 → reduced x ≡ x % 65536 + x / 65536
+unfolding reduced
+reduced-fold x h l = go (eqb (x % 65535) 0) refl
+  where
+    go : (t : Bool) → eqb (x % 65535) 0 ≡ t → cond t 65535 (x % 65535) ≡ x % 65536 + x / 65536
+    go true e = omega (arith, eqb-true (x % 65535) 0 e)
+    go false e = omega (arith, eqb-false (x % 65535) 0 e)
 
 pub sums-small : (t : Sums) (s : List ℕ) → Small t → Small (sums t s)
 unfolding sums addWord

@@ -8,10 +8,16 @@ pub struct Sums {
     pub second: u32,
 }
 
-// x modulo 65535, with 65535 for 0.
+// x modulo 65535, with 65535 for 0. A sum of two reduced numbers is small and needs no division.
 fn reduce(x: u64) -> u32
     ensures { λ r. ⌜ r ≡ reduced x ⌝ }
 {
+    if x == 0 {
+        return 65535;
+    }
+    if x <= 131070 {
+        return (x % 65536 + x / 65536) as u32;
+    }
     let m = x % 65535;
     if m == 0 { 65535 } else { m as u32 }
 }
