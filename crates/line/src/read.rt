@@ -3,7 +3,7 @@ use super::field::Part;
 use super::field::field_at;
 ghost use mathlib.Core.Path.{_≡_};
 ghost use Rattle.line.specs.Fields.{readOf, noFields};
-ghost use Rattle.line.specs.Reading.{slotOf, namedIn, put, seen, partsAfter};
+ghost use Rattle.line.specs.Reading.{slotOf, namedIn, seen, partsAfter};
 
 // What a line says of each known name, by the name's number: whether it is given, and its value.
 // A line that breaks a rule is not good and gives nothing.
@@ -48,19 +48,6 @@ impl Fields {
             given: [false; 11],
             values: [0; 11],
         }
-    }
-
-    // One value more: that of the name numbered `slot`. A name that is not known adds nothing.
-    fn put(self, slot: usize, value: u64) -> Self
-        ensures { λ r. ⌜ r ≡ put self slot value ⌝ }
-    {
-        if Fields::NAMES <= slot {
-            return self;
-        }
-        let mut next = self;
-        next.given[slot] = true;
-        next.values[slot] = value;
-        next
     }
 }
 
@@ -143,7 +130,7 @@ fn repeats(f: Fields, slot: usize, line: &[u8], end: usize, name: &[u8]) -> bool
 pub fn read_fields(line: &[u8]) -> Fields
     ensures { λ r. ⌜ r ≡ readOf (now (line .entry)) ⌝ }
 {
-    let mut f = Fields {
+    let mut fields = Fields {
         good: true,
         given: [false; 11],
         values: [0; 11],
@@ -156,12 +143,15 @@ pub fn read_fields(line: &[u8]) -> Fields
         };
         let name = &line[i..colon];
         let slot = slot_of(name);
-        if repeats(f, slot, line, end, name) {
+        if repeats(fields, slot, line, end, name) {
             return Fields::bad();
         }
-        f = f.put(slot, value);
+        if slot < Fields::NAMES {
+            fields.given[slot] = true;
+            fields.values[slot] = value;
+        }
         if end == line.len() {
-            return f;
+            return fields;
         }
         i = end + 1;
     }

@@ -1,12 +1,14 @@
 use Prim.Native.Nat.{_-_}
 use mathlib.Core.Path.{_≡_, sym, _∙_}
 use native.Mathlib.Omega.{arith}
+use mathlib.Core.Logic.{⊎-elim}
+use borrow.Author.Tests.{lt-ltb, le-ltb}
 use denote.Ref.{now}
 use lib.ListN.{length, drop}
 use Rattle.text.specs.Text.{split}
 use Rattle.line.specs.Field.{comma}
 use Rattle.line.specs.Fields.{readOf}
-use Rattle.line.specs.Reading.{finish}
+use Rattle.line.specs.Reading.{put, finish}
 use Rattle.line.specs.FieldLaws.{part-placed, parts-more}
 use Rattle.line.specs.ReadingLaws.{finish-bad, finish-end, finish-seen, finish-put}
 use Rattle.line.specs.FinishLaws.{finish-all}
@@ -15,10 +17,10 @@ use Rattle.line.proofs.read.read_fields.Statement.{statement}
 use Rattle.line.proofs.read.read_fields.Tie as tie
 
 abbrev Inv-loop : tie.InvT-loop
-Inv-loop line f₀ i₀ f i = (finish f (split comma (drop i line)) ≡ readOf line)
+Inv-loop line fields₀ i₀ fields i = (finish fields (split comma (drop i line)) ≡ readOf line)
 
 abbrev μ-loop : tie.MeasureT-loop
-μ-loop line f₀ i₀ f i = length line - i
+μ-loop line fields₀ i₀ fields i = length line - i
 
 loop-holds : tie.Need-loop-holds Inv-loop μ-loop
 loop-holds c = finish-all (now (c .before .args .line))
@@ -27,7 +29,7 @@ returns : tie.Need-returns Inv-loop μ-loop
 returns c =
     let l = c .before .before .before .before .loop in
     let bad = sym (c .before .enum-told .given .1) ∙ c .before .before .before .field-at .ensures in
-    c .bad .ensures ∙ sym (finish-bad (l .f) (now (c .before .before .before .before .before .before .args .line)) (l .i) bad) ∙ l .inv
+    c .bad .ensures ∙ sym (finish-bad (l .fields) (now (c .before .before .before .before .before .before .args .line)) (l .i) bad) ∙ l .inv
 
 sub-name : tie.Need-sub-name Inv-loop μ-loop
 sub-name c =
@@ -51,7 +53,16 @@ returns-2 c =
     let p = part-placed (sym (k .p .given .1) ∙ k .before .before .field-at .ensures) in
     let s = rw (c .before .before .before .slot-of .ensures) at (c .before .before .repeats .ensures) in
     let line = now (c .before .before .before .before .before .before .before .before .before .before .before .args .line) in
-    c .bad2 .ensures ∙ sym (finish-seen (l .f) line (l .i) p (sym s ∙ c .before .if1 .taken)) ∙ l .inv
+    c .bad2 .ensures ∙ sym (finish-seen (l .fields) line (l .i) p (sym s ∙ c .before .if1 .taken)) ∙ l .inv
+
+-- what is read so far, with this field's value
+with-value : (c : tie.Joined2 Inv-loop μ-loop) →
+    c .if2 .fields ≡
+    put (c .before .before .before .before .before .before .before .before .before .loop .fields) (c .before .before .before .slot-of .result)
+    (c .before .before .before .before .before .before .p .given .0 .1 .0)
+unfolding put
+with-value c =
+    ⊎-elim (λ t. t .1 ∙ rw (lt-ltb _ 11 (t .0 .taken))) (λ t. t .1 ∙ rw (le-ltb _ 11 (t .0 .left))) (c .if2 .came)
 
 returns-3 : tie.Need-returns-3 Inv-loop μ-loop
 returns-3 c =
@@ -60,8 +71,8 @@ returns-3 c =
     let k = c .before .before .before .before .before .before .before in
     let p = part-placed (sym (k .p .given .1) ∙ k .before .before .field-at .ensures) in
     let s = rw (c .before .before .before .before .slot-of .ensures) at (c .before .before .before .repeats .ensures) in
-    let f = rw (c .before .before .before .before .slot-of .ensures) at (c .before .put .ensures) in
-    f ∙ sym (finish-end _ line _ (omega arith)) ∙ sym (finish-put (l .f) line (l .i) p (sym s ∙ c .before .before .if1 .left)) ∙ l .inv
+    let f = rw (c .before .before .before .before .slot-of .ensures) at (with-value (c .before)) in
+    f ∙ sym (finish-end _ line _ (omega arith)) ∙ sym (finish-put (l .fields) line (l .i) p (sym s ∙ c .before .before .if1 .left)) ∙ l .inv
 
 add-i : tie.Need-add-i Inv-loop μ-loop
 add-i c =
@@ -83,9 +94,9 @@ loop-again c =
     let k = c .before .before .before .before .before .before .before in
     let p = part-placed (sym (k .p .given .1) ∙ k .before .before .field-at .ensures) in
     let s = rw (c .before .before .before .before .slot-of .ensures) at (c .before .before .before .repeats .ensures) in
-    let f = rw (c .before .before .before .before .slot-of .ensures) at (c .before .put .ensures) in
+    let f = rw (c .before .before .before .before .slot-of .ensures) at (with-value (c .before)) in
     rw (f, ← parts-more line end (omega (arith, p .inside)))
-    (sym (finish-put (l .f) line (l .i) p (sym s ∙ c .before .before .if1 .left)) ∙ l .inv)
+    (sym (finish-put (l .fields) line (l .i) p (sym s ∙ c .before .before .if1 .left)) ∙ l .inv)
 
 pub read-fields-spec : {M : Type 1} → statement M
 read-fields-spec =
@@ -106,7 +117,9 @@ read-fields-spec =
     (λ c κs. search needs)
     (λ c κs. search needs)
     returns-2
-    (λ c κs. search needs)
+    (λ c. search needs)
+    (λ c. search needs)
+    (λ c. search needs)
     returns-3
     add-i
     loop-less
