@@ -2,6 +2,7 @@
 --
 --   Chunk              the struct: id, block, len (in blocks), first (where its pages may begin), next, root, version
 --   needed r           a chunk header's reading has all the fields that are needed
+--   saidAt image b     the chunk that the header in block b says, whatever its footer is
 --   footed image c     the chunk's footer is right and says the same chunk, block and version
 --   standsAt image b   the chunk that stands at block b, if one does
 use Prim.Native.Nat.{ℕ, suc, _+_, _^_}
@@ -51,3 +52,9 @@ unfoldable pub standsAt : List ℕ → ℕ → Standing
 standsAt image b =
     let r = chunkLine image b in
     cond (leb 2 b && (needed r && fitting (blocksIn image) b r)) (footed image (chunkOf b r)) Nothing
+
+-- the same up to its footer
+unfoldable pub saidAt : List ℕ → ℕ → Standing
+saidAt image b =
+    let r = chunkLine image b in
+    cond (leb 2 b && (needed r && fitting (blocksIn image) b r)) (Stands (chunkOf b r)) Nothing

@@ -12,7 +12,7 @@ use Rattle.opening.specs.declared.image.Reading.{Reading}
 use Rattle.opening.specs.declared.chunk.Chunk.{Chunk}
 use Rattle.opening.specs.declared.chunk.Standing.the-variants.{Stands, Nothing}
 use Rattle.opening.specs.Image.{blockSize, blocksIn, chunkLine, footerLine, value}
-use Rattle.opening.specs.Chunk.{needed, fitting, chunkOf, footerOf, footed, standsAt}
+use Rattle.opening.specs.Chunk.{needed, fitting, chunkOf, footerOf, footed, standsAt, saidAt}
 use Rattle.opening.specs.ImageLaws.{blocks-most, blocks-whole, newline-small}
 
 both : (a b : Bool) → a && b ≡ true → (a ≡ true) × (b ≡ true)
@@ -53,41 +53,75 @@ pub record Small (r : Reading) : Type 0 where
   pub len-small : value r len ≤ 2 ^ 28
   pub newline-small : r .newline < 1024
 
--- ## When a chunk stands, a law for each way that the code takes
+-- ## What a header says, a law for each way that the code takes
 module _ (image : List ℕ) (b : ℕ) where
-  pub stands-header : b < 2 → standsAt image b ≡ Nothing
-  unfolding standsAt
-  stands-header h = rw (lt-leb 2 b h)
+  pub said-header : b < 2 → saidAt image b ≡ Nothing
+  unfolding saidAt
+  said-header h = rw (lt-leb 2 b h)
 
-  pub stands-unneeded : needed (chunkLine image b) ≡ false → standsAt image b ≡ Nothing
-  unfolding standsAt
-  stands-unneeded e = go (leb 2 b) refl
+  pub said-unneeded : needed (chunkLine image b) ≡ false → saidAt image b ≡ Nothing
+  unfolding saidAt
+  said-unneeded e = go (leb 2 b) refl
     where
-      go : (t : Bool) → leb 2 b ≡ t → standsAt image b ≡ Nothing
+      go : (t : Bool) → leb 2 b ≡ t → saidAt image b ≡ Nothing
       go true q = rw (q, e)
       go false q = rw q
 
-  pub stands-unfit : fitting (blocksIn image) b (chunkLine image b) ≡ false → standsAt image b ≡ Nothing
-  unfolding standsAt
-  stands-unfit e = go (leb 2 b) refl (needed (chunkLine image b)) refl
+  pub said-unfit : fitting (blocksIn image) b (chunkLine image b) ≡ false → saidAt image b ≡ Nothing
+  unfolding saidAt
+  said-unfit e = go (leb 2 b) refl (needed (chunkLine image b)) refl
     where
-      go : (t : Bool) → leb 2 b ≡ t → (u : Bool) → needed (chunkLine image b) ≡ u → standsAt image b ≡ Nothing
+      go : (t : Bool) → leb 2 b ≡ t → (u : Bool) → needed (chunkLine image b) ≡ u → saidAt image b ≡ Nothing
       go true q true n = rw (q, n, e)
       go true q false n = rw (q, n)
       go false q u n = rw q
 
-  pub stands-footed : 2 ≤ b → needed (chunkLine image b) ≡ true → fitting (blocksIn image) b (chunkLine image b) ≡ true →
-      standsAt image b ≡ footed image (chunkOf b (chunkLine image b))
-  unfolding standsAt
-  stands-footed h n e = rw (le-leb 2 b h, n, e)
+  pub said-fit : 2 ≤ b → needed (chunkLine image b) ≡ true → fitting (blocksIn image) b (chunkLine image b) ≡ true →
+      saidAt image b ≡ Stands (chunkOf b (chunkLine image b))
+  unfolding saidAt
+  said-fit h n e = rw (le-leb 2 b h, n, e)
 
-  -- nothing stands past the last block
-  pub stands-past : blocksIn image ≤ b → standsAt image b ≡ Nothing
-  stands-past h = go (fitting (blocksIn image) b (chunkLine image b)) refl
+  -- nothing is said past the last block
+  pub said-past : blocksIn image ≤ b → saidAt image b ≡ Nothing
+  said-past h = go (fitting (blocksIn image) b (chunkLine image b)) refl
     where
-      go : (t : Bool) → fitting (blocksIn image) b (chunkLine image b) ≡ t → standsAt image b ≡ Nothing
+      go : (t : Bool) → fitting (blocksIn image) b (chunkLine image b) ≡ t → saidAt image b ≡ Nothing
       go true e = let f = fitting-fits (blocksIn image) b (chunkLine image b) e in absurd (omega (arith, f .len-some, f .inside))
-      go false e = stands-unfit e
+      go false e = said-unfit e
+
+module _ (image : List ℕ) (b : ℕ) {c : Chunk} (s : saidAt image b ≡ Stands c) where
+  said-told : (2 ≤ b) × (needed (chunkLine image b) ≡ true) × (fitting (blocksIn image) b (chunkLine image b) ≡ true)
+  said-told = go (leb 2 b) refl (needed (chunkLine image b)) refl (fitting (blocksIn image) b (chunkLine image b)) refl
+    where
+      never : saidAt image b ≡ Nothing → ⊥
+      never e = let z : _≡_ {A = ℕ} 0 1 = cc in omega arith
+
+      go : (t : Bool) → leb 2 b ≡ t → (u : Bool) → needed (chunkLine image b) ≡ u → (v : Bool) →
+          fitting (blocksIn image) b (chunkLine image b) ≡ v →
+          (2 ≤ b) × (needed (chunkLine image b) ≡ true) × (fitting (blocksIn image) b (chunkLine image b) ≡ true)
+      go true q true n true f = (leb-true 2 b q, n, f)
+      go true q true n false f = absurd (never (said-unfit image b f))
+      go true q false n v f = absurd (never (said-unneeded image b n))
+      go false q u n v f = absurd (never (said-header image b (leb-false 2 b q)))
+
+  said-chunk : chunkOf b (chunkLine image b) ≡ c
+  said-chunk = let t = said-told in let e = sym (said-fit image b (t .0) (t .1) (t .2)) ∙ s in cc
+
+  pub said-inside : c .block + c .len ≤ blocksIn image
+  said-inside = rw (← said-chunk) (fitting-fits (blocksIn image) b (chunkLine image b) (said-told .2) .inside)
+
+  pub stands-footed : standsAt image b ≡ footed image c
+  unfolding standsAt
+  stands-footed = let t = said-told in rw (le-leb 2 b (t .0), t .1, t .2, ← said-chunk)
+
+pub stands-unsaid : (image : List ℕ) (b : ℕ) → saidAt image b ≡ Nothing → standsAt image b ≡ Nothing
+unfolding saidAt standsAt
+stands-unsaid image b s = go (leb 2 b && (needed (chunkLine image b) && fitting (blocksIn image) b (chunkLine image b))) s
+  where
+    go : (t : Bool) → cond t (Stands (chunkOf b (chunkLine image b))) Nothing ≡ Nothing →
+        cond t (footed image (chunkOf b (chunkLine image b))) Nothing ≡ Nothing
+    go true e = absurd (let z : _≡_ {A = ℕ} 0 1 = cc in omega arith)
+    go false e = refl
 
 -- ## What holds of a chunk that stands
 pub record Stood (image : List ℕ) (c : Chunk) : Type 0 where
@@ -127,32 +161,25 @@ header-stood image b h f s q =
     }
 
 module _ (image : List ℕ) (b : ℕ) {c : Chunk} (s : standsAt image b ≡ Stands c) where
-  stands-told : (2 ≤ b) × (needed (chunkLine image b) ≡ true) × (fitting (blocksIn image) b (chunkLine image b) ≡ true)
-  stands-told = go (leb 2 b) refl (needed (chunkLine image b)) refl (fitting (blocksIn image) b (chunkLine image b)) refl
+  stands-said : saidAt image b ≡ Stands (chunkOf b (chunkLine image b))
+  unfolding saidAt standsAt
+  stands-said = go (leb 2 b && (needed (chunkLine image b) && fitting (blocksIn image) b (chunkLine image b))) s
     where
-      never : standsAt image b ≡ Nothing → ⊥
-      never e = let z : _≡_ {A = ℕ} 0 1 = cc in omega arith
-
-      go : (t : Bool) → leb 2 b ≡ t → (u : Bool) → needed (chunkLine image b) ≡ u → (v : Bool) →
-          fitting (blocksIn image) b (chunkLine image b) ≡ v →
-          (2 ≤ b) × (needed (chunkLine image b) ≡ true) × (fitting (blocksIn image) b (chunkLine image b) ≡ true)
-      go true q true n true f = (leb-true 2 b q, n, f)
-      go true q true n false f = absurd (never (stands-unfit image b f))
-      go true q false n v f = absurd (never (stands-unneeded image b n))
-      go false q u n v f = absurd (never (stands-header image b (leb-false 2 b q)))
+      go : (t : Bool) → cond t (footed image (chunkOf b (chunkLine image b))) Nothing ≡ Stands c →
+          cond t (Stands (chunkOf b (chunkLine image b))) Nothing ≡ Stands (chunkOf b (chunkLine image b))
+      go true e = refl
+      go false e = absurd (let z : _≡_ {A = ℕ} 0 1 = cc in omega arith)
 
   header-right : (chunkOf b (chunkLine image b) ≡ c) ×
       (footerOf (chunkOf b (chunkLine image b)) (footerLine image (b + value (chunkLine image b) len)) ≡ true)
-  header-right =
-      let t = stands-told in
-      footed-right image (chunkOf b (chunkLine image b)) (sym (stands-footed image b (t .0) (t .1) (t .2)) ∙ s)
+  header-right = footed-right image (chunkOf b (chunkLine image b)) (sym (stands-footed image b stands-said) ∙ s)
 
   pub stands-block : c .block ≡ b
   stands-block = ap (λ (k : Chunk). k .block) (sym (header-right .0))
 
   pub stands-stood : Stood image c
   stands-stood =
-      let t = stands-told in
+      let t = said-told image b stands-said in
       let h = header-right in
       subst (λ (k : Chunk). Stood image k) (h .0)
       (header-stood image b (t .0) (fitting-fits (blocksIn image) b (chunkLine image b) (t .2)) (s ∙ ap Stands (sym (h .0))) (h .1))

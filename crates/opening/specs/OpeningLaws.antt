@@ -1,5 +1,5 @@
 -- What holds of the chunk that opening gives.
-use Prim.Native.Nat.{ℕ, _<_, _≤_}
+use Prim.Native.Nat.{ℕ, _+_, _<_, _≤_}
 use mathlib.Core.Path.{_≡_, refl, subst}
 use mathlib.Core.Bool.{Bool, true, false, cond, _&&_, _||_}
 use mathlib.Core.List.{List}
@@ -17,7 +17,7 @@ use Rattle.opening.specs.declared.header.Copy.{Copy}
 use Rattle.opening.specs.declared.header.Copy.the-variants.{Names, Plain, NoCopy}
 use Rattle.opening.specs.declared.Opened.the-variants.{Newest, Refused}
 use Rattle.opening.specs.Image.{blocksIn, sizeRight, footerLine, gives, value}
-use Rattle.opening.specs.Chunk.{standsAt}
+use Rattle.opening.specs.Chunk.{footerOf, footed, standsAt}
 use Rattle.opening.specs.Opening.{headerOf, kept, hasId, endsAt, headerStart, footerStart, higher}
 use Rattle.opening.specs.Opening.{successor, chain, newestFrom, good, opened}
 use Rattle.opening.specs.ChunkLaws.{Stood, stands-stood}
@@ -43,6 +43,24 @@ module _ (a b : Chunk) where
     unfolding higher
     higher-tie-first h =
         rw (le-ltb (a .version) (b .version) q, eq-eqb (a .version) (b .version) (omega arith), le-ltb (b .block) (a .block) h)
+
+-- ## The image's last footer is the footer of a chunk that ends where the image ends
+module _ (image : List ℕ) (c : Chunk) (e : ℕ) where
+  pub footed-elsewhere : (c .block + c .len ≡ e → ⊥) → kept (endsAt e) (footed image c) ≡ Nothing
+  unfolding footed
+  footed-elsewhere h = go (footerOf c (footerLine image (c .block + c .len)))
+    where
+      go : (t : Bool) → kept (endsAt e) (cond t (Stands c) Nothing) ≡ Nothing
+      go true = rw (ne-eqb (c .block + c .len) e h)
+      go false = refl
+
+  pub footed-ending : c .block + c .len ≡ e → kept (endsAt e) (footed image c) ≡ cond (footerOf c (footerLine image e)) (Stands c) Nothing
+  unfolding footed
+  footed-ending h = rw h (go (footerOf c (footerLine image e)))
+    where
+      go : (t : Bool) → kept (endsAt e) (cond t (Stands c) Nothing) ≡ cond t (Stands c) Nothing
+      go true = rw (eq-eqb (c .block + c .len) e h)
+      go false = refl
 
 -- ## The starts stand
 kept-stood : (image : List ℕ) (P : Chunk → Bool) (b : ℕ) {c : Chunk} → kept P (standsAt image b) ≡ Stands c → Stood image c

@@ -6,7 +6,7 @@ use super::image::footer_line;
 use line::Fields;
 ghost use Prim.Native.Nat.{_+_, _^_, _<_};
 ghost use mathlib.Core.Path.{_≡_};
-ghost use Rattle.opening.specs.Chunk.{needed, fitting, chunkOf, footerOf, footed, standsAt};
+ghost use Rattle.opening.specs.Chunk.{needed, fitting, chunkOf, footerOf, footed, standsAt, saidAt};
 ghost use Rattle.opening.specs.ChunkLaws.{Small};
 
 // A chunk that stands. `block` and `len` count blocks; `first` is the byte of the chunk at which its
@@ -75,7 +75,7 @@ fn chunk_of(b: u32, r: Reading) -> Chunk
 }
 
 // Whether a footer's reading is the footer of the chunk.
-fn is_footer(c: Chunk, r: Reading) -> bool
+pub fn is_footer(c: Chunk, r: Reading) -> bool
     ensures { λ x. ⌜ x ≡ footerOf c r ⌝ }
 {
     let id = c.id as u64;
@@ -97,9 +97,9 @@ fn with_footer(image: &[u8], c: Chunk) -> Standing
     }
 }
 
-// The chunk that stands at block `b`.
-pub fn stands_at(image: &[u8], b: u64) -> Standing
-    ensures { λ x. ⌜ x ≡ standsAt (now (image .entry)) b ⌝ }
+// The chunk that the header in block `b` says, whatever its footer is.
+pub fn said_at(image: &[u8], b: u64) -> Standing
+    ensures { λ x. ⌜ x ≡ saidAt (now (image .entry)) b ⌝ }
 {
     let blocks = blocks_in(image);
     if b < 2 {
@@ -116,5 +116,16 @@ pub fn stands_at(image: &[u8], b: u64) -> Standing
     if fits(blocks, block, r) {} else {
         return Standing::Nothing;
     }
-    with_footer(image, chunk_of(block, r))
+    Standing::Stands(chunk_of(block, r))
+}
+
+// The chunk that stands at block `b`.
+pub fn stands_at(image: &[u8], b: u64) -> Standing
+    ensures { λ x. ⌜ x ≡ standsAt (now (image .entry)) b ⌝ }
+{
+    let s = said_at(image, b);
+    let Standing::Stands(c) = s else {
+        return Standing::Nothing;
+    };
+    with_footer(image, c)
 }

@@ -5,6 +5,8 @@ mod image;
 
 pub use chunk::Chunk;
 pub use chunk::Standing;
+use chunk::is_footer;
+use chunk::said_at;
 pub use chunk::stands_at;
 pub use header::Copy;
 pub use header::header_of;
@@ -66,11 +68,14 @@ fn footer_start(image: &[u8]) -> Standing
     if r.gives(Fields::BLOCK) {} else {
         return Standing::Nothing;
     }
-    let s = stands_at(image, r.value(Fields::BLOCK));
+    let s = said_at(image, r.value(Fields::BLOCK));
     let Standing::Stands(c) = s else {
         return Standing::Nothing;
     };
-    if c.block as u64 + c.len as u64 == blocks as u64 {
+    if c.block as u64 + c.len as u64 == blocks as u64 {} else {
+        return Standing::Nothing;
+    }
+    if is_footer(c, r) {
         s
     } else {
         Standing::Nothing

@@ -1,7 +1,9 @@
-use borrow.Author.Tests.{eq-eqb, ne-eqb}
-use mathlib.Core.Path.{_≡_}
+use mathlib.Core.Path.{_≡_, sym, _∙_}
 use denote.Ref.{now}
+use Rattle.opening.specs.Chunk.{standsAt}
 use Rattle.opening.specs.Opening.{kept, endsAt, footerStart}
+use Rattle.opening.specs.ChunkLaws.{stands-footed, stands-unsaid}
+use Rattle.opening.specs.OpeningLaws.{footed-elsewhere, footed-ending}
 use borrow.Author.Needs.{needs}
 use Rattle.opening.proofs.footer_start.Statement.{statement}
 use Rattle.opening.proofs.footer_start.Tie as tie
@@ -13,9 +15,10 @@ returns c =
     rw (← c3 .blocks-in .ensures, ← c .before .before .footer-line .ensures, ← c .before .gives .ensures, c .if1 .left)
 
 -- what is left once the footer names a block
-named : (c : tie.After-stands-at) →
+named : (c : tie.After-said-at) →
     footerStart (now (c .before .before .before .before .before .before .before .args .image)) ≡
-    kept (endsAt (c .before .before .before .before .before .blocks-in .result)) (c .stands-at .result)
+    kept (endsAt (c .before .before .before .before .before .blocks-in .result))
+    (standsAt (now (c .before .before .before .before .before .before .before .args .image)) (c .before .value .result))
 unfolding footerStart
 named c =
     let c3 = c .before .before .before in
@@ -25,21 +28,52 @@ named c =
       ← c3 .gives .ensures,
       c .before .before .if1 .taken,
       ← c .before .value .ensures,
-      ← c .stands-at .ensures,
     )
 
 returns-2 : tie.Need-returns-2
-returns-2 c = rw (named (c .before .before), c .enum-told .given .1)
+returns-2 c =
+    let c2 = c .before .before in
+    rw (named c2, stands-unsaid _ _ (sym (c2 .said-at .ensures) ∙ c .enum-told .given .1))
 
 returns-3 : tie.Need-returns-3
 returns-3 c =
     let c4 = c .before .before .before .before in
-    rw (named (c4 .before .before), c4 .s .given .1, eq-eqb _ _ (c .if2 .taken))
+    let c6 = c4 .before .before in
+    let c11 = c6 .before .before .before .before .before in
+    let image = now (c11 .before .before .args .image) in
+    rw (named c6, stands-footed image _ (sym (c6 .said-at .ensures) ∙ c4 .s .given .1), footed-elsewhere image (c4 .s .given .0 .0) (c11 .blocks-in .result) (c .if2 .left))
 
 returns-4 : tie.Need-returns-4
 returns-4 c =
-    let c4 = c .before .before .before .before in
-    rw (named (c4 .before .before), c4 .s .given .1, ne-eqb _ _ (c .if2 .left))
+    let c2 = c .before .before in
+    let c6 = c2 .before .before .before .before in
+    let c8 = c6 .before .before in
+    let c13 = c8 .before .before .before .before .before in
+    let image = now (c13 .before .before .args .image) in
+    rw (
+      named c8,
+      stands-footed image _ (sym (c8 .said-at .ensures) ∙ c6 .s .given .1),
+      footed-ending image (c6 .s .given .0 .0) (c13 .blocks-in .result) (c2 .if2 .taken),
+      ← c8 .before .before .before .before .footer-line .ensures,
+      ← c .before .is-footer .ensures,
+      c .if3 .taken,
+    )
+
+returns-5 : tie.Need-returns-5
+returns-5 c =
+    let c2 = c .before .before in
+    let c6 = c2 .before .before .before .before in
+    let c8 = c6 .before .before in
+    let c13 = c8 .before .before .before .before .before in
+    let image = now (c13 .before .before .args .image) in
+    rw (
+      named c8,
+      stands-footed image _ (sym (c8 .said-at .ensures) ∙ c6 .s .given .1),
+      footed-ending image (c6 .s .given .0 .0) (c13 .blocks-in .result) (c2 .if2 .taken),
+      ← c8 .before .before .before .before .footer-line .ensures,
+      ← c .before .is-footer .ensures,
+      c .if3 .left,
+    )
 
 pub footer-start-spec : {M : Type 1} → statement M
 footer-start-spec =
@@ -59,4 +93,6 @@ footer-start-spec =
     (λ c. search needs)
     (λ c. search needs)
     returns-3
-    returns-4)
+    (λ c κs. search needs)
+    returns-4
+    returns-5)
