@@ -8,7 +8,7 @@ use native.Mathlib.Omega.{arith}
 use borrow.Author.Tests.{le-leb, lt-leb, eq-eqb, ne-eqb, ltb-true, ltb-false, eqb-true, not-false}
 use lib.Dec.{eqb, ltb}
 use lib.ListN.{length, getD, take, drop, length-drop, List·getD-eq-default}
-use lib.Seq.{getD-take, getD-drop, length-take-le, drop-drop}
+use lib.Seq.{getD-take, getD-drop, length-take-le, take-take, drop-drop}
 use Rattle.text.specs.Text.{span, within, isNot, isLetter}
 use Rattle.text.specs.Laws.{span-le, span-next, span-narrower, every-narrower, span-drop, drop-run, span-run, span-ends, span-goes-on}
 use Rattle.numeral.specs.declared.hex.Number.the-variants.{Bad}
@@ -86,6 +86,16 @@ module _ (line : List ℕ) (i colon-at : ℕ) (e : colon-at ≡ i + span isLette
 
   letters-in : colon-at - i ≤ span (isNot comma) (drop i line)
   letters-in = omega (arith, span-narrower isLetter (isNot comma) letter-not-comma (drop i line))
+
+  pub letters-part : take (span isLetter (partFrom line i)) (partFrom line i) ≡ take (colon-at - i) (drop i line)
+  letters-part = rw letters (take-take (colon-at - i) (span (isNot comma) (drop i line)) (drop i line) letters-in)
+
+  pub letters-rest : i + length (partFrom line i) ≡ colon-at + span (isNot comma) (drop colon-at line)
+  letters-rest =
+      let place : i + (colon-at - i) ≡ colon-at = omega arith in
+      let more = span-drop (isNot comma) (colon-at - i) (drop i line) letters-in in
+      let there = rw (drop-drop (colon-at - i) i line, place) at more in
+      omega (arith, length-part line i)
 
   part-tested : fieldOf (partFrom line i) ≡
       cond (within 1 16 (colon-at - i) && eqb (getD line colon-at 0) colon)

@@ -52,6 +52,7 @@ parts-first line i = rw (length-part line i) (go (eq-or-lt-of-le (span-le (isNot
 
 -- ## A field and the part that it is
 pub record Named (p : List ℕ) (f : Field) : Type 0 where
+  pub letters : f .name ≡ take (span isLetter p) p
   pub name : f .name ≡ take (length (f .name)) p
   pub inside : length (f .name) < length p
 
@@ -78,7 +79,11 @@ field-named p f q = go (within 1 16 n && eqb (getD p n 0) colon) refl (hexOf (dr
     go true e (Value v) q =
         let f-name : f .name ≡ take n p = cc in
         let size : length (f .name) ≡ n = ap length f-name ∙ length-take-le n p (span-le isLetter p) in
-        record { name = rw size f-name; inside = rw size (byte-inside p n 57 (and-true (within 1 16 n) (eqb (getD p n 0) colon) e .1)) }
+        record {
+          letters = f-name;
+          name = rw size f-name;
+          inside = rw size (byte-inside p n 57 (and-true (within 1 16 n) (eqb (getD p n 0) colon) e .1));
+        }
     go true e Bad q = absurd (let z : _≡_ {A = ℕ} 0 1 = cc in omega arith)
     go false e x q = absurd (let z : _≡_ {A = ℕ} 0 1 = cc in omega arith)
 

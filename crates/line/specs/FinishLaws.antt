@@ -7,26 +7,28 @@ use mathlib.Core.Option.{Option, none, some}
 use native.Mathlib.Omega.{arith}
 use borrow.Author.Tests.{ltb-true, ltb-false}
 use lib.Dec.{ltb}
-use lib.ListN.{getD, List·getD-eq-default}
-use Rattle.text.specs.Text.{same, split}
+use lib.ListN.{getD, take, List·getD-eq-default}
+use Rattle.text.specs.Text.{span, isLetter, same, split}
 use Rattle.line.specs.declared.read.Fields.{Fields}
 use Rattle.line.specs.Field.{Field, comma, fieldOf}
 use Rattle.line.specs.Fields.{onSome, has, noneTwice, allFields, fieldsOf, known, listed, noFields, readOf}
 use Rattle.line.specs.Reading.{slotOf, namedIn, nothingYet, seen, finish}
+use Rattle.line.specs.FieldLaws.{field-named}
 use Rattle.line.specs.FillLaws.{Sized, added, clear, fill, put-sized, put-unknown, clear-added, clear-start, start-sized, fill-listed}
 
 -- ## The rest of a line as its fields
 named-has : (name : List ℕ) (ps : List (List ℕ)) (fs : List Field) → allFields ps ≡ some fs → namedIn name ps ≡ has name fs
 unfolding namedIn allFields has
 named-has name [] fs e = let n : fs ≡ [] = cc in rw n
-named-has name (p ∷ ps) fs e = go (fieldOf p) (allFields ps) (named-has name ps) e
+named-has name (p ∷ ps) fs e = go (fieldOf p) refl (allFields ps) (named-has name ps) e
   where
-    go : (o : Option Field) (os : Option (List Field)) → ((gs : List Field) → os ≡ some gs → namedIn name ps ≡ has name gs) →
+    go : (o : Option Field) → fieldOf p ≡ o → (os : Option (List Field)) → ((gs : List Field) → os ≡ some gs → namedIn name ps ≡ has name gs) →
         onSome o none (λ f. onSome os none (λ gs. some (f ∷ gs))) ≡ some fs →
-        onSome o false (λ f. cond (same name (f .name)) true (namedIn name ps)) ≡ has name fs
-    go none os ih e = absurd (let z : _≡_ {A = ℕ} 0 1 = cc in omega arith)
-    go (some f) none ih e = absurd (let z : _≡_ {A = ℕ} 0 1 = cc in omega arith)
-    go (some f) (some gs) ih e = let n : fs ≡ f ∷ gs = cc in rw (n, ih gs refl) (either (same name (f .name)) (has name gs))
+        cond (same name (take (span isLetter p) p)) true (namedIn name ps) ≡ has name fs
+    go none q os ih e = absurd (let z : _≡_ {A = ℕ} 0 1 = cc in omega arith)
+    go (some f) q none ih e = absurd (let z : _≡_ {A = ℕ} 0 1 = cc in omega arith)
+    go (some f) q (some gs) ih e =
+        let n : fs ≡ f ∷ gs = cc in rw (n, ih gs refl, ← field-named p f q .letters) (either (same name (f .name)) (has name gs))
       where
         either : (a b : Bool) → cond a true b ≡ (a || b)
         either true b = refl

@@ -3,7 +3,7 @@
 --
 --   numberOf name names   the place of a name in a list of names; their count where it is not there
 --   slotOf name           the number of a known name, 11 for any other
---   namedIn name parts    a part has the name, before any that is no field
+--   namedIn name parts    a part begins with the name: its first letters are no more and no fewer
 --   put acc slot v        what is read so far, and the value of the name numbered slot, if there is one
 --   seen acc slot name parts   the name is given already; if it is not known, it is in the parts that follow
 --   finish acc parts      what a line says of which acc is read and the parts are left
@@ -14,7 +14,7 @@ use mathlib.Core.Bool.{Bool, true, false, cond, _&&_}
 use mathlib.Core.List.{List, [], _∷_}
 use lib.Dec.{eqb, ltb}
 use lib.ListN.{length, getD, take, drop, set, replicate}
-use Rattle.text.specs.Text.{same, split}
+use Rattle.text.specs.Text.{span, isLetter, same, split}
 use Rattle.fletcher.specs.Fletcher.{fletcherOf}
 use Rattle.line.specs.declared.read.Fields.{Fields}
 use Rattle.line.specs.Field.{Field, comma, fieldOf}
@@ -29,7 +29,7 @@ slotOf name = numberOf name known
 
 unfoldable pub namedIn : List ℕ → List (List ℕ) → Bool
 namedIn name [] = false
-namedIn name (p ∷ ps) = onSome (fieldOf p) false (λ f. cond (same name (f .name)) true (namedIn name ps))
+namedIn name (p ∷ ps) = cond (same name (take (span isLetter p) p)) true (namedIn name ps)
 
 abbrev pub nothingYet : Fields
 nothingYet = record { good = true; given = replicate 11 false; values = replicate 11 0 }

@@ -29,7 +29,7 @@ fn is_letter(b: u8) -> bool
 }
 
 // The place after the letters at `from`.
-fn letters_end(s: &[u8], from: usize) -> usize
+pub fn letters_end(s: &[u8], from: usize) -> usize
     ensures { λ r. ⌜ r ≡ from + span isLetter (drop from (now (s .entry))) ⌝ }
 {
     let mut i = from;

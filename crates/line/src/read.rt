@@ -1,6 +1,7 @@
 // All fields of a line, in one pass: the values of the names that the file's lines are asked for.
 use super::field::Part;
 use super::field::field_at;
+use super::field::letters_end;
 ghost use mathlib.Core.Path.{_≡_};
 ghost use Rattle.line.specs.Fields.{readOf, noFields};
 ghost use Rattle.line.specs.Reading.{slotOf, namedIn, seen, partsAfter};
@@ -91,26 +92,18 @@ fn slot_of(name: &[u8]) -> usize
     Fields::NAMES
 }
 
-// Whether a field after the one that ends at `at` has the name `name`. A part that is no field ends the search.
+// Whether a part after the one that ends at `at` begins with `name`: with these letters and no more.
 fn named_later(line: &[u8], at: usize, name: &[u8]) -> bool
     ensures { λ r. ⌜ r ≡ namedIn (now (name .entry)) (partsAfter (now (line .entry)) at) ⌝ }
 {
     let mut i = at;
     while i < line.len() {
         let from = i + 1;
-        let p = field_at(line, from);
-        let Part::Field {
-            colon,
-            value: _,
-            end,
-        } = p
-        else {
-            return false;
-        };
-        if text::same_bytes(name, &line[from..colon]) {
+        let to = letters_end(line, from);
+        if text::same_bytes(name, &line[from..to]) {
             return true;
         }
-        i = end;
+        i = text::find_byte(line, to, 44);
     }
     false
 }

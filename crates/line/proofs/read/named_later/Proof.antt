@@ -1,11 +1,12 @@
-use Prim.Native.Nat.{_-_}
+use Prim.Native.Nat.{_+_, _-_}
 use mathlib.Core.Path.{_≡_, sym, _∙_}
 use native.Mathlib.Omega.{arith}
 use denote.Ref.{now}
-use lib.ListN.{length}
+use lib.ListN.{length, drop, length-drop}
+use Rattle.text.specs.Text.{isLetter}
+use Rattle.text.specs.Laws.{span-le}
 use Rattle.line.specs.Reading.{namedIn, partsAfter}
-use Rattle.line.specs.FieldLaws.{part-placed}
-use Rattle.line.specs.ReadingLaws.{named-none, named-bad, named-here, named-on}
+use Rattle.line.specs.ReadingLaws.{named-none, named-here, named-on}
 use borrow.Author.Needs.{needs}
 use Rattle.line.proofs.read.named_later.Statement.{statement}
 use Rattle.line.proofs.read.named_later.Tie as tie
@@ -16,52 +17,33 @@ Inv-loop line at name i₀ i = (namedIn name (partsAfter line i) ≡ namedIn nam
 abbrev μ-loop : tie.MeasureT-loop
 μ-loop line at name i₀ i = length line - i
 
-returns : tie.Need-returns Inv-loop μ-loop
-returns c =
-    let a = c .before .before .before .before .before .before .before .args in
-    let l = c .before .before .before .before .loop in
-    let bad = sym (c .enum-told .given .1) ∙ c .before .before .field-at .ensures in
-    sym (named-bad (now (a .line)) (now (a .name)) (l .i) (omega arith) bad) ∙ l .inv
-
-sub-same-bytes : tie.Need-sub-same-bytes Inv-loop μ-loop
-sub-same-bytes c =
-    let p = part-placed (sym (c .before .p .given .1) ∙ c .before .before .before .field-at .ensures) in
-    omega (arith, p .after, p .before, p .inside)
-
-part-same-bytes-start : tie.Need-part-same-bytes-start Inv-loop μ-loop
-part-same-bytes-start c =
-    let p = part-placed (sym (c .before .p .given .1) ∙ c .before .before .before .field-at .ensures) in
-    omega (arith, p .after, p .before, p .inside)
-
 part-same-bytes-end : tie.Need-part-same-bytes-end Inv-loop μ-loop
 part-same-bytes-end c =
-    let p = part-placed (sym (c .before .p .given .1) ∙ c .before .before .before .field-at .ensures) in
-    omega (arith, p .after, p .before, p .inside)
+    let line = now (c .before .before .before .before .before .args .line) in
+    let from = c .before .before .loop .i + 1 in
+    omega (arith, c .letters-end .ensures, span-le isLetter (drop from line), length-drop from line)
 
-returns-2 : tie.Need-returns-2 Inv-loop μ-loop
-returns-2 c =
-    let a = c .before .before .before .before .before .before .before .before .before .before .before .args in
-    let l = c .before .before .before .before .before .before .before .before .loop in
-    let k = c .before .before .before .before in
-    let p = part-placed (sym (k .p .given .1) ∙ k .before .before .field-at .ensures) in
-    sym (named-here (now (a .line)) (now (a .name)) (l .i) (omega arith) p (sym (c .before .same-bytes .ensures) ∙ c .if1 .taken)) ∙ l .inv
+returns : tie.Need-returns Inv-loop μ-loop
+returns c =
+    let a = c .before .before .before .before .before .before .before .before .args in
+    let l = c .before .before .before .before .before .loop in
+    let letters = c .before .before .before .letters-end .ensures in
+    let named = sym (c .before .same-bytes .ensures) ∙ c .if1 .taken in
+    sym (named-here (now (a .line)) (now (a .name)) (l .i) (omega arith) _ letters named) ∙ l .inv
 
 loop-less : tie.Need-loop-less Inv-loop μ-loop
-loop-less c =
-    let k = c .before .before .before .before in
-    let p = part-placed (sym (k .p .given .1) ∙ k .before .before .field-at .ensures) in
-    omega (arith, p .after, p .before, p .inside)
+loop-less c = omega (arith, c .before .before .before .before .letters-end .ensures, c .find-byte .ensures)
 
 loop-again : tie.Need-loop-again Inv-loop μ-loop
 loop-again c =
-    let a = c .before .before .before .before .before .before .before .before .before .before .before .args in
-    let l = c .before .before .before .before .before .before .before .before .loop in
-    let k = c .before .before .before .before in
-    let p = part-placed (sym (k .p .given .1) ∙ k .before .before .field-at .ensures) in
-    sym (named-on (now (a .line)) (now (a .name)) (l .i) (omega arith) p (sym (c .before .same-bytes .ensures) ∙ c .if1 .left)) ∙ l .inv
+    let a = c .before .before .before .before .before .before .before .before .before .args in
+    let l = c .before .before .before .before .before .before .loop in
+    let letters = c .before .before .before .before .letters-end .ensures in
+    let other = sym (c .before .before .same-bytes .ensures) ∙ c .before .if1 .left in
+    sym (named-on (now (a .line)) (now (a .name)) (l .i) (omega arith) _ letters (c .find-byte .ensures) other) ∙ l .inv
 
-returns-3 : tie.Need-returns-3 Inv-loop μ-loop
-returns-3 c =
+returns-2 : tie.Need-returns-2 Inv-loop μ-loop
+returns-2 c =
     let a = c .before .before .before .before .args in
     let l = c .before .loop in
     sym (named-none (now (a .line)) (now (a .name)) (l .i) (omega arith)) ∙ l .inv
@@ -77,12 +59,10 @@ named-later-spec =
     (λ c κs. search needs)
     (λ c. search needs)
     (λ c. search needs)
-    returns
-    sub-same-bytes
-    part-same-bytes-start
     part-same-bytes-end
     (λ c κs. search needs)
-    returns-2
+    returns
+    (λ c κs. search needs)
     loop-less
     loop-again
-    returns-3)
+    returns-2)
