@@ -1,6 +1,6 @@
 // One field of a line: a name of 1 to 16 letters, a colon, and digits.
 use numeral::Numeral;
-ghost use Prim.Native.Nat.{_+_};
+ghost use Prim.Native.Nat.{_+_, _<_};
 ghost use mathlib.Core.Path.{_≡_};
 ghost use lib.ListN.{drop};
 ghost use Rattle.text.specs.Text.{span, isLetter};
@@ -16,12 +16,11 @@ pub enum Part {
     Bad,
 }
 
-fn is_letter(b: u8) -> bool
+// Whether a byte below `a` is a letter.
+fn is_capital(b: u8) -> bool
+    requires { ⌜ b < 97 ⌝ }
     ensures { λ r. ⌜ r ≡ isLetter b ⌝ }
 {
-    if 97 <= b {
-        return b <= 122;
-    }
     if b < 65 {
         return false;
     }
@@ -34,11 +33,17 @@ pub fn letters_end(s: &[u8], from: usize) -> usize
 {
     let mut i = from;
     while i < s.len() {
-        if is_letter(s[i]) {
-            i += 1;
+        let b = s[i];
+        if b < 97 {
+            if is_capital(b) {} else {
+                return i;
+            }
         } else {
-            return i;
+            if 122 < b {
+                return i;
+            }
         }
+        i += 1;
     }
     i
 }
