@@ -24,7 +24,7 @@ fn join(low: u64, rest: Numeral) -> Numeral
 
 // The number at `at`, if it is below `limit`. What follows the first byte has its own limit, which
 // falls to 1 after ten bytes at most: no run of bytes makes this long.
-pub fn read_var(s: &[u8], at: usize, limit: u64) -> Numeral
+fn any_var(s: &[u8], at: usize, limit: u64) -> Numeral
     ensures { λ r. ⌜ r ≡ varAt limit (now (s .entry)) at ⌝ }
 {
     if s.len() <= at {
@@ -41,5 +41,23 @@ pub fn read_var(s: &[u8], at: usize, limit: u64) -> Numeral
         };
     }
     let low = b - 128;
-    join(low, read_var(s, at + 1, (limit - low - 1) / 128 + 1))
+    join(low, any_var(s, at + 1, (limit - low - 1) / 128 + 1))
+}
+
+// The same. Most numbers have one byte, and those take no further call.
+pub fn read_var(s: &[u8], at: usize, limit: u64) -> Numeral
+    ensures { λ r. ⌜ r ≡ varAt limit (now (s .entry)) at ⌝ }
+{
+    if at < s.len() {
+        let b = s[at] as u64;
+        if b < 128 {
+            if b < limit {
+                return Numeral::Read {
+                    value: b,
+                    next: at + 1,
+                };
+            }
+        }
+    }
+    any_var(s, at, limit)
 }
