@@ -56,7 +56,7 @@ leaf-bounded levels false (e ∷ es) f = record { one = omega arith; rest = reco
 
 module _ {K : Type 0} (levels : ℕ) (child : Option K → Option K → ℕ → Outcome Report)
     (small : (lo hi : Option K) (p : ℕ) (r : Report) → child lo hi p ≡ ok r → Small levels r) where
-  children-small : (lo hi : Option K) (cs : Children K) (r : Report) → examineChildren child lo hi cs ≡ ok r → Small levels r
+  pub children-small : (lo hi : Option K) (cs : Children K) (r : Report) → examineChildren child lo hi cs ≡ ok r → Small levels r
   children-small lo hi (last p c) r e = small lo hi p r (counted-ok (child lo hi p) c r e .0)
   children-small lo hi (more p c s cs) r e =
       let h = more-ok child lo hi p c s cs r e in
