@@ -1,39 +1,46 @@
 -- What a page's entries are given by lies in the page, and so in the image.
 --
 --   Inside s p         the bytes at the spot p all stand in s
---   EntryInside s e    the key's and the value's do
+--   EntryIn s kind x   the entry's key and value do, and its key is the one that stands there
 use Prim.Native.Nat.{ℕ, zero, suc, _+_, _≤_}
-use mathlib.Core.Path.{_≡_, refl}
+use mathlib.Core.Path.{_≡_, refl, _∙_, ap}
 use mathlib.Core.List.{List, [], _∷_}
 use mathlib.Core.Option.{none, some}
 use native.Mathlib.Omega.{arith}
-use lib.ListN.{length, getElem?}
+use lib.ListN.{length, length-take, take, drop, getElem?}
+use lib.Seq.{take-take}
 use Rattle.order.specs.declared.Order.{Order}
 use Rattle.order.specs.declared.Order.the-variants as order
 use Rattle.key.specs.declared.Kind.{Kind}
 use Rattle.key.specs.declared.sized.Sized.{Sized}
 use Rattle.key.specs.declared.sized.Sized.the-variants.{At, Bad}
-use Rattle.key.specs.Key.{Key, compareKeys}
+use Rattle.key.specs.Key.{Key, keyOf, compareKeys}
 use Rattle.tree.specs.Page.{All}
 use Rattle.tree.specs.Asking.{three, findIn}
+use Rattle.tree.specs.ListLaws.{all-imp}
+use Rattle.tree.specs.HoldsLaws.{InLeaf}
 use Rattle.item.specs.declared.Form.{Form}
 use Rattle.item.specs.declared.Form.the-variants.{Bytes}
 use Rattle.item.specs.Step.{got, bad, onStep, upTo}
 use Rattle.item.specs.Item.{Spot, onSized, itemAt, items}
 use Rattle.item.specs.ItemLaws.{item-lies}
+use Rattle.page.specs.declared.Judged.{Judged}
+use Rattle.page.specs.declared.Judged.the-variants.{Refused, Leaf, Inner}
 use Rattle.page.specs.Judged.{keyForm}
 use Rattle.content.specs.declared.Found.the-variants as found
 use Rattle.content.specs.declared.Nth.the-variants as nth
-use Rattle.content.specs.Content.{Entry, paired, entriesIn, foundOf, nthOf}
+use Rattle.content.specs.Content.{Entry, keyIn, paired, entriesIn, pageOf, foundOf, nthOf}
 
 abbrev pub Inside : List ℕ → Spot → Type 0
 Inside s p = p .at + p .len ≤ length s
 
-abbrev pub EntryInside : List ℕ → Key × Entry → Type 0
-EntryInside s e = Inside s (e .1 .key) × Inside s (e .1 .value)
+pub record EntryIn (s : List ℕ) (kind : Kind) (x : Key × Entry) : Type 0 where
+  pub key-inside : Inside s (x .1 .key)
+  pub value-inside : Inside s (x .1 .value)
+  pub key-there : x .0 ≡ keyIn s kind (x .1 .key)
 
 module _ (s : List ℕ) where
-  items-inside : (f : Form) (n i : ℕ) → All (Inside s) (upTo (items s f) n i)
+  pub items-inside : (f : Form) (n i : ℕ) → All (Inside s) (upTo (items s f) n i)
   unfolding upTo items
   items-inside f zero i = tt
   items-inside f (suc n) i = go (λ j. items-inside f n j) (itemAt s f i) refl
@@ -45,20 +52,21 @@ module _ (s : List ℕ) where
           (omega (arith, l .ends, l .inside), ih next)
       go ih Bad q = tt
 
-  paired-inside : (kind : Kind) (ks vs : List Spot) → All (Inside s) ks → All (Inside s) vs → All (EntryInside s) (paired s kind ks vs)
+  paired-in : (kind : Kind) (ks vs : List Spot) → All (Inside s) ks → All (Inside s) vs → All (EntryIn s kind) (paired s kind ks vs)
   unfolding paired
-  paired-inside kind [] vs h k = tt
-  paired-inside kind (x ∷ ks) [] h k = tt
-  paired-inside kind (x ∷ ks) (y ∷ vs) h k = ((h .0, k .0), paired-inside kind ks vs (h .1) (k .1))
+  paired-in kind [] vs h k = tt
+  paired-in kind (x ∷ ks) [] h k = tt
+  paired-in kind (x ∷ ks) (y ∷ vs) h k =
+      (record { key-inside = h .0; value-inside = k .0; key-there = refl }, paired-in kind ks vs (h .1) (k .1))
 
-  entries-inside : (kind : Kind) (n keys values : ℕ) → All (EntryInside s) (entriesIn s kind n keys values)
+  entries-in : (kind : Kind) (n keys values : ℕ) → All (EntryIn s kind) (entriesIn s kind n keys values)
   unfolding entriesIn
-  entries-inside kind n keys values = paired-inside kind _ _ (items-inside (keyForm kind) n keys) (items-inside Bytes n values)
+  entries-in kind n keys values = paired-in kind _ _ (items-inside (keyForm kind) n keys) (items-inside Bytes n values)
 
-  find-inside : (k : Key) (es : List (Key × Entry)) {at len : ℕ} → All (EntryInside s) es
+  find-inside : (kind : Kind) (k : Key) (es : List (Key × Entry)) {at len : ℕ} → All (EntryIn s kind) es
       → foundOf (findIn compareKeys k es) ≡ found.At at len → at + len ≤ length s
-  find-inside k [] h e = absurd (let z : _≡_ {A = ℕ} 0 1 = cc in omega arith)
-  find-inside k (x ∷ es) {at} {len} h e = go (λ q. find-inside k es (h .1) q) (compareKeys (x .0) k) e
+  find-inside kind k [] h e = absurd (let z : _≡_ {A = ℕ} 0 1 = cc in omega arith)
+  find-inside kind k (x ∷ es) {at} {len} h e = go (λ q. find-inside kind k es (h .1) q) (compareKeys (x .0) k) e
     where
       go : (foundOf (findIn compareKeys k es) ≡ found.At at len → at + len ≤ length s) → (o : Order)
           → foundOf (three o (findIn compareKeys k es) (some (x .1)) none) ≡ found.At at len → at + len ≤ length s
@@ -66,25 +74,47 @@ module _ (s : List ℕ) where
       go ih order.Equal q =
           let a : x .1 .value .at ≡ at = cc in
           let b : x .1 .value .len ≡ len = cc in
-          omega (arith, h .0 .1)
+          omega (arith, h .0 .value-inside)
       go ih order.Greater q = absurd (let z : _≡_ {A = ℕ} 0 1 = cc in omega arith)
 
-  nth-inside : (es : List (Key × Entry)) (k : ℕ) {key size at len : ℕ} → All (EntryInside s) es
+  nth-inside : (kind : Kind) (es : List (Key × Entry)) (k : ℕ) {key size at len : ℕ} → All (EntryIn s kind) es
       → nthOf (getElem? es k) ≡ nth.Entry key size at len → (key + size ≤ length s) × (at + len ≤ length s)
-  nth-inside [] k h e = absurd (let z : _≡_ {A = ℕ} 0 1 = cc in omega arith)
-  nth-inside (x ∷ es) zero {key} {size} {at} {len} h e =
+  nth-inside kind [] k h e = absurd (let z : _≡_ {A = ℕ} 0 1 = cc in omega arith)
+  nth-inside kind (x ∷ es) zero {key} {size} {at} {len} h e =
       let a : x .1 .key .at ≡ key = cc in
       let b : x .1 .key .len ≡ size = cc in
       let c : x .1 .value .at ≡ at = cc in
       let d : x .1 .value .len ≡ len = cc in
-      (omega (arith, h .0 .0), omega (arith, h .0 .1))
-  nth-inside (x ∷ es) (suc k) h e = nth-inside es k (h .1) e
+      (omega (arith, h .0 .key-inside), omega (arith, h .0 .value-inside))
+  nth-inside kind (x ∷ es) (suc k) h e = nth-inside kind es k (h .1) e
 
   -- ## What the code hands back
   pub found-inside : (kind : Kind) (n keys values : ℕ) (k : Key) {at len : ℕ}
       → foundOf (findIn compareKeys k (entriesIn s kind n keys values)) ≡ found.At at len → at + len ≤ length s
-  found-inside kind n keys values k e = find-inside k (entriesIn s kind n keys values) (entries-inside kind n keys values) e
+  found-inside kind n keys values k e = find-inside kind k (entriesIn s kind n keys values) (entries-in kind n keys values) e
 
   pub entry-inside : (kind : Kind) (n keys values k : ℕ) {key size at len : ℕ}
       → nthOf (getElem? (entriesIn s kind n keys values) k) ≡ nth.Entry key size at len → (key + size ≤ length s) × (at + len ≤ length s)
-  entry-inside kind n keys values k e = nth-inside (entriesIn s kind n keys values) k (entries-inside kind n keys values) e
+  entry-inside kind n keys values k e = nth-inside kind (entriesIn s kind n keys values) k (entries-in kind n keys values) e
+
+-- ## In the image
+part-cut : (at len e : ℕ) (l : List ℕ) → at + len ≤ length (take e l) → take len (drop at (take e l)) ≡ take len (drop at l)
+part-cut zero len e l h = take-take len e l (omega (arith, length-take e l))
+part-cut (suc at) len zero l h = absurd (omega arith)
+part-cut (suc at) len (suc e) [] h = absurd (omega arith)
+part-cut (suc at) len (suc e) (x ∷ l) h = part-cut at len e l (omega arith)
+
+module _ (image : List ℕ) (kind : Kind) where
+  cut-in : (e : ℕ) (x : Key × Entry) → EntryIn (take e image) kind x → EntryIn image kind x
+  unfolding keyIn
+  cut-in e x h = record {
+    key-inside = omega (arith, length-take e image, h .key-inside);
+    value-inside = omega (arith, length-take e image, h .value-inside);
+    key-there = h .key-there ∙ ap (keyOf kind) (part-cut (x .1 .key .at) (x .1 .key .len) e image (h .key-inside));
+  }
+
+  pub page-in : (j : Judged) → InLeaf (EntryIn image kind) (pageOf image kind j)
+  unfolding pageOf
+  page-in (Refused r) = tt
+  page-in (Leaf n keys values e) = all-imp (cut-in e) (entriesIn (take e image) kind n keys values) (entries-in (take e image) kind n keys values)
+  page-in (Inner n positions counts keys e total) = tt

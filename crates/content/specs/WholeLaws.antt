@@ -3,9 +3,9 @@
 --   LeafWhole, InnerWhole    the lists are whole
 --   Whole image kind j       the same of what a page was judged to be
 --   childrenIn s kind n ..   the children of an inner page, by the places of its parts
-use Prim.Native.Nat.{ℕ, zero, suc, _+_, _^_, _<_}
+use Prim.Native.Nat.{ℕ, zero, suc, _+_, _^_, _≤_, _<_}
 use mathlib.Core.Path.{_≡_, refl, _∙_, ap}
-use mathlib.Core.List.{List, [], _∷_}
+use mathlib.Core.List.{List, [], _∷_, map}
 use mathlib.Core.Option.{Option, none, some}
 use native.Mathlib.Omega.{arith}
 use lib.ListN.{length, take, length-map}
@@ -14,6 +14,7 @@ use Rattle.key.specs.declared.Kind.{Kind}
 use Rattle.key.specs.Key.{Key}
 use Rattle.page.specs.declared.Place.{Place}
 use Rattle.tree.specs.Page.{Children, leaf, inner, total}
+use Rattle.tree.specs.Rising.{keysOf}
 use Rattle.tree.specs.Asking.{indexChildren}
 use Rattle.tree.specs.InnerPage.{childrenOf, sum}
 use Rattle.tree.specs.ChildrenLaws.{total-childrenOf}
@@ -28,7 +29,7 @@ use Rattle.page.specs.declared.Judged.{Judged}
 use Rattle.page.specs.declared.Judged.the-variants.{Refused, Leaf, Inner}
 use Rattle.page.specs.Judged.{keyForm, judgedAt}
 use Rattle.page.specs.PassedLaws.{LeafPassed, InnerPassed, Passed, judged-passed}
-use Rattle.content.specs.Content.{Entry, keysIn, positionsIn, countsIn, paired, entriesIn, pageOf, pageIn, pick}
+use Rattle.content.specs.Content.{Entry, keyIn, keysIn, positionsIn, countsIn, paired, entriesIn, pageOf, pageIn, pick}
 use Rattle.content.specs.PickLaws.{picked, index-pick}
 
 pub record LeafWhole (s : List ℕ) (kind : Kind) (n keys values : ℕ) : Type 0 where
@@ -62,6 +63,30 @@ leaf-whole s kind n keys values p = record {
   few = p .few;
   all-entries = paired-length s kind n _ _ (skipped-length s (keyForm kind) n keys (p .key-items)) (skipped-length s Bytes n values (p .value-items));
 }
+
+upTo-few : {A C : Type 0} (read : C → Step A C) (n : ℕ) (c : C) → length (upTo read n c) ≤ n
+unfolding upTo
+upTo-few read zero c = omega arith
+upTo-few {A} {C} read (suc n) c = go (λ d. upTo-few read n d) (read c)
+  where
+    go : ((d : C) → length (upTo read n d) ≤ n) → (t : Step A C) → length (onStep t [] (λ a d. a ∷ upTo read n d)) ≤ suc n
+    go ih (got a d) = omega (arith, ih d)
+    go ih bad = omega arith
+
+paired-keys : (s : List ℕ) (kind : Kind) (ks vs : List Spot) → length ks ≤ length (paired s kind ks vs)
+    → keysOf (paired s kind ks vs) ≡ map (keyIn s kind) ks
+unfolding paired
+paired-keys s kind [] vs h = refl
+paired-keys s kind (k ∷ ks) [] h = absurd (omega arith)
+paired-keys s kind (k ∷ ks) (v ∷ vs) h = ap (keyIn s kind k ∷_) (paired-keys s kind ks vs (omega arith))
+
+-- its keys are its entries'
+pub keys-whole : {s : List ℕ} {kind : Kind} {n keys values : ℕ} → LeafWhole s kind n keys values
+    → keysOf (entriesIn s kind n keys values) ≡ keysIn s kind n keys
+unfolding entriesIn keysIn
+keys-whole {s} {kind} {n} {keys} {values} w =
+    paired-keys s kind (upTo (items s (keyForm kind)) n keys) (upTo (items s Bytes) n values)
+    (omega (arith, w .all-entries, upTo-few (items s (keyForm kind)) n keys))
 
 -- ## Of an inner page
 module _ (s : List ℕ) where

@@ -97,6 +97,16 @@ fn raise(bits: u64) -> u64
     }
 }
 
+// The signed number that 64 bits are: below zero it is the complement of the complement.
+pub fn signed(bits: u64) -> i64
+    ensures { λ r. ⌜ r ≡ toZ w64 bits ⌝ }
+{
+    if bits < 9223372036854775808 {
+        return bits as i64;
+    }
+    !((18446744073709551615 - bits) as i64)
+}
+
 fn compare_numbers(a: u64, b: u64) -> Order
     ensures { λ r. ⌜ r ≡ compareInt (toZ w64 a) (toZ w64 b) ⌝ }
 {
