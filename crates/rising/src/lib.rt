@@ -1,0 +1,186 @@
+// The order of a page's keys: each against the one before it, the first and the last against the
+// nearest separators above.
+use key::Kind;
+use key::Sized;
+use order::Order;
+ghost use mathlib.Core.Path.{_≡_};
+ghost use mathlib.Core.Bool.{_&&_};
+ghost use mathlib.Core.Option.{none};
+ghost use lib.ListN.{take};
+ghost use Rattle.order.specs.Order.{below};
+ghost use Rattle.key.specs.Key.{compareKeys};
+ghost use Rattle.tree.specs.Examination.{aboveBound, fromBound, belowBound};
+ghost use Rattle.tree.specs.Rising.{rises, lastBelow, keysTest, separatorsTest};
+ghost use Rattle.item.specs.Step.{upTo};
+ghost use Rattle.item.specs.Item.{items};
+ghost use Rattle.page.specs.Judged.{keyForm};
+ghost use Rattle.content.specs.Content.{keyIn, keysIn};
+ghost use Rattle.rising.specs.Rising.{boundKey, riseOf, firstOf};
+
+// The nearest separator above on a side, by its place in the image; or none.
+pub enum Bound {
+    Open,
+    Key { at: usize, len: usize },
+}
+
+// Keys that rise strictly, by the last of them; or keys that do not.
+pub enum Rise {
+    Ends(Bound),
+    Falls,
+}
+
+// Whether the key at one place is below the key at another.
+fn key_below(image: &[u8], kind: Kind, at: usize, len: usize, other: usize, size: usize) -> bool
+    ensures { λ r. ⌜ r ≡ below compareKeys (keyIn (now (image .entry)) kind (record { at = at; len = len })) (keyIn (now (image .entry)) kind (record { at = other; len = size })) ⌝ }
+{
+    let o = key::compare(
+        kind,
+        opening::area_at(image, at, len),
+        opening::area_at(image, other, size),
+    );
+    match o {
+        Order::Less => true,
+        Order::Equal => false,
+        Order::Greater => false,
+    }
+}
+
+// Whether the key at a place is above the bound.
+fn above_bound(image: &[u8], kind: Kind, b: Bound, at: usize, len: usize) -> bool
+    ensures { λ r. ⌜ r ≡ aboveBound compareKeys (boundKey (now (image .entry)) kind b) (keyIn (now (image .entry)) kind (record { at = at; len = len })) ⌝ }
+{
+    match b {
+        Bound::Open => true,
+        Bound::Key {
+            at: other,
+            len: size,
+        } => key_below(image, kind, other, size, at, len),
+    }
+}
+
+// Whether the key at a place is not below the bound.
+fn from_bound(image: &[u8], kind: Kind, b: Bound, at: usize, len: usize) -> bool
+    ensures { λ r. ⌜ r ≡ fromBound compareKeys (boundKey (now (image .entry)) kind b) (keyIn (now (image .entry)) kind (record { at = at; len = len })) ⌝ }
+{
+    match b {
+        Bound::Open => true,
+        Bound::Key {
+            at: other,
+            len: size,
+        } => {
+            if key_below(image, kind, at, len, other, size) {
+                return false;
+            }
+            true
+        }
+    }
+}
+
+// Whether the key at a place is below the bound.
+fn below_bound(image: &[u8], kind: Kind, b: Bound, at: usize, len: usize) -> bool
+    ensures { λ r. ⌜ r ≡ belowBound compareKeys (boundKey (now (image .entry)) kind b) (keyIn (now (image .entry)) kind (record { at = at; len = len })) ⌝ }
+{
+    match b {
+        Bound::Open => true,
+        Bound::Key {
+            at: other,
+            len: size,
+        } => key_below(image, kind, at, len, other, size),
+    }
+}
+
+// Whether `n` keys from `keys` on rise strictly, and the last of them.
+fn rise_from(image: &[u8], kind: Kind, n: u32, keys: usize, end: usize) -> Rise
+    ensures { λ r. ⌜ r ≡ riseOf (now (image .entry)) kind Bound.Open (upTo (items (take end (now (image .entry))) (keyForm kind)) n keys) ⌝ }
+{
+    let s = page::cut(image, end);
+    let form = page::key_form(kind);
+    let mut left = n;
+    let mut i = keys;
+    let mut b = Bound::Open;
+    while 0 < left {
+        let it = item::item_at(s, form, i);
+        let Sized::At { at, len, next } = it else {
+            return Rise::Ends(b);
+        };
+        if above_bound(image, kind, b, at, len) {} else {
+            return Rise::Falls;
+        }
+        b = Bound::Key { at, len };
+        i = next;
+        left -= 1;
+    }
+    Rise::Ends(b)
+}
+
+// Whether the keys rise strictly and the last of them is below the bound.
+fn rise_below(image: &[u8], kind: Kind, n: u32, keys: usize, end: usize, hi: Bound) -> bool
+    ensures { λ r. ⌜ r ≡ (rises compareKeys none (keysIn (take end (now (image .entry))) kind n keys) && lastBelow compareKeys (boundKey (now (image .entry)) kind hi) (keysIn (take end (now (image .entry))) kind n keys)) ⌝ }
+{
+    let r = rise_from(image, kind, n, keys, end);
+    match r {
+        Rise::Falls => false,
+        Rise::Ends(b) => match b {
+            Bound::Open => true,
+            Bound::Key { at, len } => below_bound(image, kind, hi, at, len),
+        },
+    }
+}
+
+// The first of `n` keys, as a bound.
+fn first_key(image: &[u8], kind: Kind, n: u32, keys: usize, end: usize) -> Bound
+    ensures { λ r. ⌜ r ≡ firstOf (upTo (items (take end (now (image .entry))) (keyForm kind)) n keys) ⌝ }
+{
+    if n == 0 {
+        return Bound::Open;
+    }
+    let it = item::item_at(page::cut(image, end), page::key_form(kind), keys);
+    match it {
+        Sized::At { at, len, next: _ } => Bound::Key { at, len },
+        Sized::Bad => Bound::Open,
+    }
+}
+
+// Whether an inner page's separators rise strictly and lie strictly between the bounds.
+pub fn separators_lie(
+    image: &[u8],
+    kind: Kind,
+    n: u32,
+    keys: usize,
+    end: usize,
+    lo: Bound,
+    hi: Bound,
+) -> bool
+    ensures { λ r. ⌜ r ≡ separatorsTest compareKeys (boundKey (now (image .entry)) kind lo) (boundKey (now (image .entry)) kind hi) (keysIn (take end (now (image .entry))) kind n keys) ⌝ }
+{
+    let f = first_key(image, kind, n, keys, end);
+    let Bound::Key { at, len } = f else {
+        return true;
+    };
+    if above_bound(image, kind, lo, at, len) {
+        return rise_below(image, kind, n, keys, end, hi);
+    }
+    false
+}
+
+// Whether a leaf's keys rise strictly, not below the bound on the left, below the one on the right.
+pub fn keys_lie(
+    image: &[u8],
+    kind: Kind,
+    n: u32,
+    keys: usize,
+    end: usize,
+    lo: Bound,
+    hi: Bound,
+) -> bool
+    ensures { λ r. ⌜ r ≡ keysTest compareKeys (boundKey (now (image .entry)) kind lo) (boundKey (now (image .entry)) kind hi) (keysIn (take end (now (image .entry))) kind n keys) ⌝ }
+{
+    let f = first_key(image, kind, n, keys, end);
+    let Bound::Key { at, len } = f else {
+        return true;
+    };
+    if from_bound(image, kind, lo, at, len) {
+        return rise_below(image, kind, n, keys, end, hi);
+    }
+    false
+}
