@@ -9,8 +9,10 @@ use borrow.Author.Tests.{eq-eqb, ne-eqb, lt-ltb, le-ltb, le-leb, lt-leb}
 use Rattle.refusal.specs.declared.Refusal.{Refusal}
 use Rattle.refusal.specs.Refusal.{ok, refuse, bind, badArgument, notANumber}
 use Rattle.numeral.specs.declared.hex.Number.the-variants as number
+use Rattle.key.specs.declared.Kind.{Kind}
 use Rattle.key.specs.declared.Kind.the-variants.{Text}
-use Rattle.key.specs.Key.{keyOf, text}
+use Rattle.key.specs.Key.{Key, keyOf, text, compareKeys}
+use Rattle.tree.specs.Asking.{mapLookup}
 use Rattle.locating.specs.GateLaws.{gated-open}
 use Rattle.opening.specs.declared.chunk.Chunk.{Chunk}
 use Rattle.content.specs.Content.{Entry}
@@ -20,8 +22,9 @@ use Rattle.store.specs.declared.Looked.{Looked}
 use Rattle.store.specs.declared.Looked.the-variants as looked
 use Rattle.store.specs.Store.{chunkAt, reader, metaValue, nameKey, rootKey, idOf, namedId, namedRoot, mapId, mapRoot}
 use Rattle.store.specs.Store.{namedMap, placeSaid}
+use Rattle.store.specs.Asking.{valueOf}
 use Rattle.store.specs.Memory.{TellsOf, Sought}
-use Rattle.store.specs.Steps.{locatedBy, idBy, rootBy}
+use Rattle.store.specs.Steps.{locatedBy, valueBy, idBy, rootBy}
 
 -- ## Numbers
 pub id-low : (v : ℕ) → v < 1 → idOf (number.Value v) ≡ refuse notANumber
@@ -40,34 +43,44 @@ module _ (image : List ℕ) (newest : Chunk) where
   place-told c (told.At l n) (h, d) = sym (gated-open d 8 h)
   place-told c (told.Refused r) t = sym t
 
+  -- ## What was sought in a map
+  module _ (map : ℕ) (kind : Kind) (root : ℕ) (k : Key) where
+    sought-found : (at len n : ℕ) → Sought image newest map kind root k 8 (looked.Found at len n)
+        → (e : Entry) × (e .value ≡ record { at = at; len = len }) × (mapLookup compareKeys (reader image newest map kind) k root ≡ ok (some e))
+    unfolding Sought reader chunkAt
+    sought-found at len n (e, i, h, g) = (e, i, gated-open g 8 h)
+
+    sought-absent : (n : ℕ) → Sought image newest map kind root k 8 (looked.Absent n)
+        → mapLookup compareKeys (reader image newest map kind) k root ≡ ok none
+    unfolding Sought reader chunkAt
+    sought-absent n (h, g) = gated-open g 8 h
+
+    sought-refused : {r : Refusal} → Sought image newest map kind root k 8 (looked.Refused r)
+        → mapLookup compareKeys (reader image newest map kind) k root ≡ refuse r
+    unfolding Sought reader chunkAt
+    sought-refused s = s
+
+    pub value-sought : (f : Looked) → Sought image newest map kind root k 8 f
+        → valueBy f ≡ valueOf (mapLookup compareKeys (reader image newest map kind) k root)
+    unfolding valueBy valueOf
+    value-sought (looked.Found at len n) s = let m = sought-found at len n s in rw (m .2, m .1)
+    value-sought (looked.Absent n) s = rw (sought-absent n s)
+    value-sought (looked.Refused r) s = rw (sought-refused s)
+
   -- ## A map's id and root
-  meta-found : (k : List ℕ) (at len n : ℕ) → Sought image newest 0 Text (newest .root) (text k) 8 (looked.Found at len n)
-      → (e : Entry) × (e .value ≡ record { at = at; len = len }) × (metaValue image newest k ≡ ok (some e))
-  unfolding Sought metaValue reader chunkAt
-  meta-found k at len n (e, i, h, g) = (e, i, gated-open g 8 h)
-
-  meta-absent : (k : List ℕ) (n : ℕ) → Sought image newest 0 Text (newest .root) (text k) 8 (looked.Absent n) → metaValue image newest k ≡ ok none
-  unfolding Sought metaValue reader chunkAt
-  meta-absent k n (h, g) = gated-open g 8 h
-
-  meta-refused : (k : List ℕ) {r : Refusal} → Sought image newest 0 Text (newest .root) (text k) 8 (looked.Refused r)
-      → metaValue image newest k ≡ refuse r
-  unfolding Sought metaValue reader chunkAt
-  meta-refused k s = s
-
   id-by : (k : List ℕ) (f : Looked) → Sought image newest 0 Text (newest .root) (text k) 8 f
       → idBy image f ≡ bind (metaValue image newest k) (namedId image)
-  unfolding idBy
-  id-by k (looked.Found at len n) s = let m = meta-found k at len n s in rw (m .2, m .1)
-  id-by k (looked.Absent n) s = rw (meta-absent k n s)
-  id-by k (looked.Refused r) s = rw (meta-refused k s)
+  unfolding idBy metaValue
+  id-by k (looked.Found at len n) s = let m = sought-found 0 Text (newest .root) (text k) at len n s in rw (m .2, m .1)
+  id-by k (looked.Absent n) s = rw (sought-absent 0 Text (newest .root) (text k) n s)
+  id-by k (looked.Refused r) s = rw (sought-refused 0 Text (newest .root) (text k) s)
 
   root-by : (k : List ℕ) (f : Looked) → Sought image newest 0 Text (newest .root) (text k) 8 f
       → rootBy image f ≡ bind (metaValue image newest k) (namedRoot image)
-  unfolding rootBy
-  root-by k (looked.Found at len n) s = let m = meta-found k at len n s in rw (m .2, m .1)
-  root-by k (looked.Absent n) s = rw (meta-absent k n s)
-  root-by k (looked.Refused r) s = rw (meta-refused k s)
+  unfolding rootBy metaValue
+  root-by k (looked.Found at len n) s = let m = sought-found 0 Text (newest .root) (text k) at len n s in rw (m .2, m .1)
+  root-by k (looked.Absent n) s = rw (sought-absent 0 Text (newest .root) (text k) n s)
+  root-by k (looked.Refused r) s = rw (sought-refused 0 Text (newest .root) (text k) s)
 
   module _ (bytes : List ℕ) (f : Looked) (s : Sought image newest 0 Text (newest .root) (keyOf Text bytes) 8 f) where
     pub id-sought : (name : List ℕ) → length name ≤ 1000 → bytes ≡ nameKey name → idBy image f ≡ namedMap image newest name

@@ -1,4 +1,9 @@
 pub mod Store
+pub mod Asking
+pub mod Examining
+pub mod Walk
+pub mod WalkSteps
+pub mod WalkWays
 pub mod Memory
 pub mod Steps
 pub mod Keys
@@ -9,3 +14,11 @@ pub mod StepLaws
 pub mod CycleLaws
 pub mod AnswerLaws
 pub mod ReaderLaws
+pub mod ReadLaws
+pub mod AskLaws
+pub mod WalkReadLaws
+pub mod WalkStateLaws
+pub mod WalkedLaws
+pub mod ExamineLaws
+pub mod TallyLaws
+pub mod CameLaws

@@ -5,7 +5,7 @@
 --   needOf f               the questions that a lookup's answer took, 0 for a refusal
 --   toldBy need s          what locating answers by the chunk that stands, if it does, after a lookup of that need
 --   settledTold, settledWords    locating by the metadata's answer, and the memory after it
---   locatedBy, idBy, rootBy    the public answers by what was told of a chunk, or by the metadata's answer
+--   locatedBy, valueBy, idBy, rootBy    the public answers by what was told of a chunk, or by the metadata's answer
 use Prim.Native.Nat.{ℕ, _+_, max}
 use mathlib.Core.List.{List}
 use mathlib.Core.Option.{Option, none, some}
@@ -26,6 +26,8 @@ use Rattle.store.specs.declared.Looked.{Looked}
 use Rattle.store.specs.declared.Looked.the-variants as looked
 use Rattle.store.specs.declared.Located.{Located}
 use Rattle.store.specs.declared.Located.the-variants as located
+use Rattle.store.specs.declared.Value.{Value}
+use Rattle.store.specs.declared.Value.the-variants as value
 use Rattle.store.specs.declared.step.Step.{Step}
 use Rattle.store.specs.declared.step.Step.the-variants as step
 use Rattle.store.specs.declared.step.Advance.{Advance}
@@ -80,6 +82,11 @@ settledWords image n ws t = wordsBy ws n t (recalledIn ws n)
 unfoldable pub locatedBy : Told → Located
 locatedBy (told.At l need) = located.At l
 locatedBy (told.Refused r) = located.Refused r
+
+unfoldable pub valueBy : Looked → Value
+valueBy (looked.Found at len need) = value.At at len
+valueBy (looked.Absent need) = value.Absent
+valueBy (looked.Refused r) = value.Refused r
 
 unfoldable pub idBy : List ℕ → Looked → Outcome ℕ
 idBy image (looked.Found at len need) = idOf (hexOf (bytesAt image (record { at = at; len = len })))

@@ -1,24 +1,38 @@
-// The store of an image and its newest chunk: where chunks are, and a map's id and root. Locating a
-// chunk asks the metadata, whose pages stand in chunks that may have to be located first.
+// The store of an image and its newest chunk: where chunks are, a map's id and root, and what is
+// asked of a map. Locating a chunk asks the metadata, whose pages stand in chunks that may have to be
+// located first.
+mod ask;
+mod down;
+mod examining;
+mod fetch;
 mod keys;
 mod locate;
 mod memory;
+mod read;
 mod settle;
 mod step;
+mod walking;
 
+pub use ask::count;
+pub use ask::index;
+pub use ask::lookup;
+pub use examining::examine;
 use key::Kind;
 use keys::name_key;
-use keys::number_key;
 use locate::descend;
 use locate::locate;
 use numeral::Number;
 use opening::Chunk;
 use page::Place;
+use read::root_at;
 use refusal::Refusal;
+pub use walking::Stepped;
+pub use walking::Walk;
+pub use walking::Yield;
+pub use walking::advance;
 ghost use mathlib.Core.Path.{_≡_};
 ghost use Rattle.store.specs.Store.{chunkAt, idOf, rootOf, namedMap, mapRoot, placeSaid, idSaid, rootSaid};
 ghost use Rattle.store.specs.Steps.{locatedBy, idBy, rootBy};
-
 // Where a chunk is, and the questions that locating it takes; or the refusal.
 pub enum Told {
     At { place: Place, need: u32 },
@@ -44,6 +58,41 @@ pub enum Id {
 
 pub enum Root {
     At(u64),
+    Refused(Refusal),
+}
+
+// A value by place and length.
+pub enum Value {
+    At { at: usize, len: usize },
+    Absent,
+    Refused(Refusal),
+}
+
+// An entry: its key and its value by place and length.
+pub enum Fetched {
+    At {
+        key: usize,
+        size: usize,
+        at: usize,
+        len: usize,
+    },
+    Refused(Refusal),
+}
+
+pub enum Counted {
+    Is(u64),
+    Refused(Refusal),
+}
+
+// What the examination reports: entries, pages and the deepest page's depth.
+pub struct Report {
+    pub entries: u64,
+    pub pages: u64,
+    pub depth: u32,
+}
+
+pub enum Examined {
+    Passed(Report),
     Refused(Refusal),
 }
 
@@ -148,21 +197,6 @@ fn root_by(image: &[u8], f: Looked) -> Root
 pub fn map_root(image: &[u8], newest: Chunk, map: u32) -> Root
     ensures { λ r. ⌜ rootSaid r ≡ mapRoot (now (image .entry)) newest map ⌝ }
 {
-    if map == 0 {
-        return Root::At(newest.root);
-    }
-    let mut key = [0u8; 1024];
-    let n = number_key(&mut key, b"root.", map as u64);
     let mut memory = [0u64; 512];
-    let f = descend(
-        image,
-        newest,
-        &mut memory,
-        newest.root,
-        0,
-        Kind::Text,
-        &key[..n],
-        QUESTIONS,
-    );
-    root_by(image, f)
+    root_at(image, newest, &mut memory, map)
 }

@@ -1,41 +1,16 @@
-use mathlib.Core.Path.{sym, _∙_}
-use native.Mathlib.Omega.{arith}
-use denote.Ref.{now}
-use lib.Seq.{length-take-le}
 use Rattle.store.specs.MemoryLaws.{empty-right}
-use Rattle.store.specs.AnswerLaws.{root-metadata, root-sought}
-use borrow.Author.Needs.{needs}
 use Rattle.store.proofs.map_root.Statement.{statement}
 use Rattle.store.proofs.map_root.Tie as tie
 
+root-at-requires : tie.Need-root-at-requires
+root-at-requires c κs = empty-right _ _
+
 returns : tie.Need-returns
-returns c =
-    let a = c .before .before .args in
-    sym (root-metadata (now (a .image)) (a .newest) (a .map) (c .if1 .taken))
-
-array-share-prefix-key : tie.Need-array-share-prefix-key
-array-share-prefix-key c = c .before .number-key .ensures .inside
-
-slice-aggregate-descend : tie.Need-slice-aggregate-descend
-slice-aggregate-descend c = sym (length-take-le _ _ (c .before .before .number-key .ensures .inside))
-
-descend-requires : tie.Need-descend-requires
-descend-requires c κs = (omega arith, empty-right _ _)
-
-returns-2 : tie.Need-returns-2
-returns-2 c =
-    let a = c .before .before .before .before .before .before .before .before .before .args in
-    c .root-by .ensures ∙ root-sought (now (a .image)) (a .newest) _ (c .before .descend .result) (c .before .descend .ensures .1) (a .map) (c .before .before .before .before .before .before .before .if1 .left) (c .before .before .before .before .number-key .ensures .text)
+returns c = c .root-at .ensures .1
 
 pub map-root-spec : {M : Type 1} → statement M
 map-root-spec =
     tie.close
     (tie.spec
-    returns
-    (λ c. search needs)
-    (λ c κs. search needs)
-    array-share-prefix-key
-    slice-aggregate-descend
-    descend-requires
-    (λ c κs. search needs)
-    returns-2)
+    root-at-requires
+    returns)

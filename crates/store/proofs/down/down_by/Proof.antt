@@ -1,0 +1,156 @@
+use Prim.Native.Nat.{_-_, _≤_}
+use denote.Ref.{now}
+use mathlib.Core.Logic.{⊎-elim}
+use native.Mathlib.Omega.{arith}
+use lib.ListN.{length}
+use Rattle.store.specs.Memory.{RightWords}
+use Rattle.store.specs.WalkReadLaws.{Going, going-root, going-refused, going-entry, going-over, going-last, going-child}
+use Rattle.store.specs.WalkReadLaws.{entry-few, child-few}
+use borrow.Author.Needs.{needs}
+use Rattle.store.proofs.down.down_by.Statement.{statement}
+use Rattle.store.proofs.down.down_by.Tie as tie
+
+abbrev Inv-loop : tie.InvT-loop
+Inv-loop image newest memory₀ root map kind depth places p₀ level₀ found₀ number₀ next₀ memory p level found number next =
+    RightWords image newest memory × Going image newest map kind places depth root level p found number next
+
+abbrev μ-loop : tie.MeasureT-loop
+μ-loop image newest memory₀ root map kind depth places p₀ level₀ found₀ number₀ next₀ memory p level found number next = depth - level
+
+loop-holds : tie.Need-loop-holds Inv-loop μ-loop
+loop-holds c =
+    let a = c .before .args in
+    let pre = c .before .pre in (
+      pre .3,
+      going-root (now (a .image)) (a .newest) (a .map) (a .kind) (a .t7) (a .depth) (a .root) (omega arith) (omega arith) (omega arith)
+          (omega arith) 0 0,
+    )
+
+read-page-requires : tie.Need-read-page-requires Inv-loop μ-loop
+read-page-requires c κs = c .before .before .loop .inv .0
+
+returns : tie.Need-returns Inv-loop μ-loop
+returns c =
+    let a = c .before .before .before .before .before .before .before .before .before .args in
+    let few : a .depth ≤ length (a .t7) = omega arith in
+    let most : a .depth ≤ 16 = omega arith in
+    let l = c .before .before .before .before .before .before .before .loop in
+    let r = c .before .before .before .before .read-page in
+    let after-at = c .before .before .before .after-at in
+    let found = c .before .a in (
+      r .ensures .0,
+      going-refused (now (a .image)) (a .newest) (a .map) (a .kind) (a .t7) (a .depth) (a .root) few most (l .inv .1)
+          (r .ensures .1) (after-at .ensures) (found .given .1),
+    )
+
+add-t33 : tie.Need-add-t33 Inv-loop μ-loop
+add-t33 c =
+    let a = c .before .before .before .before .before .before .before .before .before .args in
+    let few : a .depth ≤ length (a .t7) = omega arith in
+    let most : a .depth ≤ 16 = omega arith in
+    let l = c .before .before .before .before .before .before .before .loop in
+    let r = c .before .before .before .before .read-page in
+    let after-at = c .before .before .before .after-at in
+    let a2 = c .before .a2 in
+    omega (
+      arith,
+      entry-few (now (a .image)) (a .newest) (a .map) (a .kind) (a .t7) (a .depth) (a .root) few most (l .inv .1)
+          (r .ensures .1) (after-at .ensures) (a2 .given .1),
+    )
+
+returns-2 : tie.Need-returns-2 Inv-loop μ-loop
+returns-2 c =
+    let a = c .before .before .before .before .before .before .before .before .before .args in
+    let few : a .depth ≤ length (a .t7) = omega arith in
+    let most : a .depth ≤ 16 = omega arith in
+    let l = c .before .before .before .before .before .before .before .loop in
+    let r = c .before .before .before .before .read-page in
+    let after-at = c .before .before .before .after-at in
+    let a2 = c .before .a2 in (
+      r .ensures .0,
+      going-entry (now (a .image)) (a .newest) (a .map) (a .kind) (a .t7) (a .depth) (a .root) few most (l .inv .1)
+          (r .ensures .1) (after-at .ensures) (a2 .given .1),
+    )
+
+returns-3 : tie.Need-returns-3 Inv-loop μ-loop
+returns-3 c =
+    let a = c .before .before .before .before .before .before .before .before .before .args in
+    let few : a .depth ≤ length (a .t7) = omega arith in
+    let most : a .depth ≤ 16 = omega arith in
+    let l = c .before .before .before .before .before .before .before .loop in
+    let r = c .before .before .before .before .read-page in
+    let after-at = c .before .before .before .after-at in
+    let enum-told = c .before .enum-told in
+    let over-at = c .over-at in (
+      r .ensures .0,
+      going-over (now (a .image)) (a .newest) (a .map) (a .kind) (a .t7) (a .depth) (a .root) few most (l .inv .1)
+          (r .ensures .1) (after-at .ensures) (enum-told .given .1) (over-at .ensures),
+    )
+
+add-number : tie.Need-add-number Inv-loop μ-loop
+add-number c =
+    let a = c .before .before .before .before .before .before .before .before .before .args in
+    let few : a .depth ≤ length (a .t7) = omega arith in
+    let most : a .depth ≤ 16 = omega arith in
+    let l = c .before .before .before .before .before .before .before .loop in
+    let r = c .before .before .before .before .read-page in
+    let after-at = c .before .before .before .after-at in
+    let a4 = c .before .a4 in
+    omega (
+      arith,
+      child-few (now (a .image)) (a .newest) (a .map) (a .kind) (a .t7) (a .depth) (a .root) few most (l .inv .1)
+          (r .ensures .1) (after-at .ensures) (a4 .given .1),
+    )
+
+loop-again : tie.Need-loop-again Inv-loop μ-loop
+loop-again c =
+    let a = c .before .before .before .before .before .before .before .args in
+    let few : a .depth ≤ length (a .t7) = omega arith in
+    let most : a .depth ≤ 16 = omega arith in
+    let l = c .before .before .before .before .before .loop in
+    let r = c .before .before .read-page in
+    let after-at = c .before .after-at in
+    let branch = c .match in (
+      r .ensures .0,
+      ⊎-elim
+          (λ w. rw (w .3, w .4, w .5, w .6)
+          (going-last (now (a .image)) (a .newest) (a .map) (a .kind) (a .t7) (a .depth) (a .root) few most (l .inv .1)
+          (r .ensures .1) (after-at .ensures) (w .1 .given .1)))
+          (λ w. rw (w .3, w .4, w .5, w .6)
+          (going-child (now (a .image)) (a .newest) (a .map) (a .kind) (a .t7) (a .depth) (a .root) few most (l .inv .1)
+          (r .ensures .1) (after-at .ensures) (w .1 .given .1)))
+          (branch .came),
+    )
+
+returns-4 : tie.Need-returns-4 Inv-loop μ-loop
+returns-4 c = absurd (omega (arith, c .before .loop .inv .1 .below))
+
+pub down-by-spec : {M : Type 1} → statement M
+down-by-spec =
+    tie.close
+    (tie.spec
+    Inv-loop
+    μ-loop
+    loop-holds
+    (λ c. search needs)
+    (λ c. search needs)
+    (λ c. search needs)
+    read-page-requires
+    (λ c. search needs)
+    (λ c κs. search needs)
+    (λ c. search needs)
+    returns
+    (λ c. search needs)
+    add-t33
+    returns-2
+    (λ c. search needs)
+    (λ c κs. search needs)
+    returns-3
+    (λ c. search needs)
+    (λ c. search needs)
+    (λ c. search needs)
+    add-number
+    (λ c. search needs)
+    (λ c. search needs)
+    loop-again
+    returns-4)

@@ -1,0 +1,199 @@
+-- Laws of the examination of a leaf, a page and a map, one for each way that the code takes. Those of the loop over a page's children
+-- are in CameLaws.
+--
+--   onePage n            the report of a leaf with n entries
+--   examined-at ..       what the examination from the page at p down hands back
+--   lying, below         of an inner page: the test of its separators, and the examination of its children
+use Prim.Native.Nat.{ℕ, zero, suc, _+_, _-_}
+use mathlib.Core.Path.{_≡_, refl, sym, _∙_, ap}
+use mathlib.Core.Bool.{Bool, true, false, cond, _&&_}
+use mathlib.Core.List.{List, [], _∷_}
+use mathlib.Core.Option.{Option, none}
+use native.Mathlib.Numerals.{add-one, sub-one}
+use lib.ListN.{length, take}
+use Rattle.refusal.specs.declared.Refusal.{Refusal}
+use Rattle.refusal.specs.Refusal.{Outcome, ok, refuse, bind, tooDeep, unsound}
+use Rattle.key.specs.declared.Kind.{Kind}
+use Rattle.key.specs.Key.{Key, compareKeys}
+use Rattle.key.specs.Laws.{key-order}
+use Rattle.tree.specs.Page.{branch}
+use Rattle.tree.specs.Rising.{keysOf, keysTest, separatorsTest}
+use Rattle.tree.specs.RisingLaws.{keys-test, separators-test}
+use Rattle.tree.specs.Examination.{Report, oneLeaf, over, filled, keysLie, examineChildren, examinePage, examine, mapExamine}
+use Rattle.tree.specs.ChildrenLaws.{separators-childrenOf}
+use Rattle.opening.specs.declared.chunk.Chunk.{Chunk}
+use Rattle.page.specs.declared.Judged.{Judged}
+use Rattle.page.specs.declared.Judged.the-variants as judged
+use Rattle.content.specs.Content.{keysIn, positionsIn, countsIn, entriesIn, pageOf}
+use Rattle.content.specs.WholeLaws.{Whole, LeafWhole, InnerWhole, childrenIn, keys-whole}
+use Rattle.rising.specs.declared.Bound.{Bound}
+use Rattle.rising.specs.declared.Bound.the-variants as bound
+use Rattle.store.specs.declared.Root.{Root}
+use Rattle.store.specs.declared.Root.the-variants as root
+use Rattle.store.specs.declared.Examined.{Examined}
+use Rattle.store.specs.declared.Examined.the-variants as examined
+use Rattle.store.specs.Store.{reader, mapRoot, rootSaid}
+use Rattle.store.specs.Asking.{judgedBy}
+use Rattle.store.specs.ReadLaws.{reader-judged, judged-all}
+use Rattle.rising.specs.Rising.{boundKey}
+use Rattle.store.specs.Examining.{examineIn, examinedOf, fullBy, leafOf, overChildren}
+
+-- ## A leaf
+abbrev pub onePage : ℕ → Examined
+onePage n = examined.Passed (record { entries = n; pages = 1; depth = 1 })
+
+filled-full : {W : Type 0} (top : Bool) (es : List (Key × W)) → fullBy top (length es) ≡ filled top es
+filled-full true [] = refl
+filled-full true (e ∷ es) = refl
+filled-full false [] = refl
+filled-full false (e ∷ es) = refl
+
+leaf-branch : (t : Bool) (n : ℕ) → examinedOf (branch t (ok (oneLeaf n)) (refuse unsound))
+    ≡ cond t (onePage n) (examined.Refused unsound)
+unfolding examinedOf
+leaf-branch true n = refl
+leaf-branch false n = refl
+
+leaf-law : {W : Type 0} (top : Bool) (lo hi : Option Key) (es : List (Key × W)) {ks : List Key} {n : ℕ} → keysOf es ≡ ks → length es ≡ n
+    → keysLie compareKeys lo hi none es ≡ keysTest compareKeys lo hi (keysOf es)
+    → cond (fullBy top n && keysTest compareKeys lo hi ks) (onePage n) (examined.Refused unsound)
+    ≡ examinedOf (branch (filled top es && keysLie compareKeys lo hi none es) (ok (oneLeaf (length es))) (refuse unsound))
+leaf-law top lo hi es e d t =
+    rw (← e, ← d, ← t, filled-full top es) (sym (leaf-branch (filled top es && keysLie compareKeys lo hi none es) (length es)))
+
+pub full-top : (n : ℕ) {top : Bool} → top ≡ true → fullBy top n ≡ true
+full-top zero e = e
+full-top (suc n) e = refl
+
+pub full-some : (n : ℕ) (top : Bool) → ¬ (n ≡ 0) → fullBy top n ≡ true
+full-some zero top h = absurd (h refl)
+full-some (suc n) top h = refl
+
+module _ (image : List ℕ) (kind : Kind) (n keys e : ℕ) (lo hi : Bound) (top : Bool) where
+  pub leaf-empty : n ≡ 0 → top ≡ false → {r : Refusal} → r ≡ unsound → examined.Refused r ≡ leafOf image kind n keys e lo hi top
+  unfolding leafOf
+  leaf-empty z f i = rw (z, f, i)
+
+  module _ {t : Bool} (lie : t ≡ keysTest compareKeys (boundKey image kind lo) (boundKey image kind hi) (keysIn (take e image) kind n keys)) where
+    pub leaf-falls : t ≡ false → {r : Refusal} → r ≡ unsound → examined.Refused r ≡ leafOf image kind n keys e lo hi top
+    unfolding leafOf
+    leaf-falls f i = rw (← lie, f, i) (go (fullBy top n))
+      where
+        go : (u : Bool) → examined.Refused unsound ≡ cond (u && false) (onePage n) (examined.Refused unsound)
+        go true = refl
+        go false = refl
+
+    pub leaf-passed : fullBy top n ≡ true → t ≡ true → onePage n ≡ leafOf image kind n keys e lo hi top
+    unfolding leafOf
+    leaf-passed full f = rw (← lie, f, full)
+
+-- ## An inner page
+over-examined : (o : Outcome Report) → overChildren (examinedOf o) ≡ examinedOf (bind o (λ a. ok (over a)))
+unfolding examinedOf overChildren
+over-examined (ok a) = rw (add-one (a .pages), add-one (a .depth))
+over-examined (refuse r) = refl
+
+-- ## By the page's judgement
+module _ (image : List ℕ) (newest : Chunk) (m : ℕ) (kind : Kind) where
+  abbrev pub examined-at : ℕ → Bool → Bound → Bound → ℕ → Examined
+  examined-at levels top lo hi p =
+      examinedOf (examine compareKeys (reader image newest m kind) levels top (boundKey image kind lo) (boundKey image kind hi) p)
+
+  module _ (levels : ℕ) (top : Bool) (lo hi : Bound) (p : ℕ) where
+    pub examined-deep : levels ≡ 0 → {r : Refusal} → r ≡ tooDeep → examined.Refused r ≡ examined-at levels top lo hi p
+    unfolding examinedOf examine
+    examined-deep e i = rw (e, i)
+
+    -- the page is read, at a level that is left
+    at-page : ¬ (levels ≡ 0) → {j : Judged} → j ≡ judgedBy image newest m kind p
+        → examinedOf (examinePage compareKeys (examine compareKeys (reader image newest m kind) (levels - 1) false) top (boundKey image kind lo)
+        (boundKey image kind hi) (pageOf image kind j)) ≡ examined-at levels top lo hi p
+    unfolding examine
+    at-page some-left {j} e = go levels some-left
+      where
+        go : (l : ℕ) → ¬ (l ≡ 0)
+            → examinedOf (examinePage compareKeys (examine compareKeys (reader image newest m kind) (l - 1) false) top (boundKey image kind lo)
+            (boundKey image kind hi) (pageOf image kind j)) ≡ examined-at l top lo hi p
+        go zero h = absurd (h refl)
+        go (suc l) h = rw (sub-one, e, ← reader-judged image newest m kind p)
+
+    -- the page is judged to be j
+    module _ (some-left : ¬ (levels ≡ 0)) {j : Judged} (is : j ≡ judgedBy image newest m kind p) where
+      pub examined-refused : {r : Refusal} → j ≡ judged.Refused r → examined.Refused r ≡ examined-at levels top lo hi p
+      unfolding examinedOf pageOf
+      examined-refused e = rw e at (at-page some-left is)
+
+      whole : Whole image kind j
+      whole = rw is (judged-all image newest m kind p)
+
+      module _ {n keys values e : ℕ} (k : j ≡ judged.Leaf n keys values e) where
+        leaf-read : examinedOf (branch (filled top (entriesIn (take e image) kind n keys values)
+            && keysLie compareKeys (boundKey image kind lo) (boundKey image kind hi) none (entriesIn (take e image) kind n keys values))
+            (ok (oneLeaf (length (entriesIn (take e image) kind n keys values)))) (refuse unsound)) ≡ examined-at levels top lo hi p
+        unfolding pageOf
+        leaf-read = rw k at (at-page some-left is)
+
+        pub examined-leaf : leafOf image kind n keys e lo hi top ≡ examined-at levels top lo hi p
+        unfolding leafOf
+        examined-leaf =
+            let w : LeafWhole (take e image) kind n keys values = rw k at whole in
+            leaf-law top (boundKey image kind lo) (boundKey image kind hi) (entriesIn (take e image) kind n keys values) (keys-whole w)
+            (w .all-entries) (keys-test key-order _ _ _) ∙ leaf-read
+
+      module _ {n positions counts keys e total : ℕ} (k : j ≡ judged.Inner n positions counts keys e total) where
+        pub inner-stands : InnerWhole (take e image) kind n positions counts keys total
+        inner-stands = rw k at whole
+
+        -- the test of its separators, and the examination of its children
+        abbrev pub lying : Bool
+        lying = separatorsTest compareKeys (boundKey image kind lo) (boundKey image kind hi) (keysIn (take e image) kind n keys)
+
+        abbrev pub below : Outcome Report
+        below =
+            examineChildren (examine compareKeys (reader image newest m kind) (levels - 1) false) (boundKey image kind lo)
+            (boundKey image kind hi) (childrenIn (take e image) kind n positions counts keys)
+
+        inner-read : (t : Bool) → lying ≡ t
+            → examinedOf (branch t (bind below (λ a. ok (over a))) (refuse unsound))
+            ≡ examined-at levels top lo hi p
+        unfolding pageOf
+        inner-read t q =
+            let s = take e image in
+            let lie = separators-test key-order (boundKey image kind lo) (boundKey image kind hi) (keysIn s kind n keys) in
+            let all = separators-childrenOf (positionsIn s (n + 1) positions) (countsIn s (n + 1) counts) (keysIn s kind n keys) in
+            let h = rw k at (at-page some-left is) in
+            rw (all, lie, q) at h
+
+        pub examined-unsound : lying ≡ false → {r : Refusal} → r ≡ unsound → examined.Refused r ≡ examined-at levels top lo hi p
+        unfolding examinedOf
+        examined-unsound q i = rw i (inner-read false q)
+
+        pub examined-inner : lying ≡ true
+            → overChildren (examinedOf below) ≡ examined-at levels top lo hi p
+        examined-inner q = over-examined _ ∙ inner-read true q
+
+-- ## A map
+module _ (image : List ℕ) (newest : Chunk) (m : ℕ) (kind : Kind) (r : Root) (is : rootSaid r ≡ mapRoot image newest m) where
+  by-root : {o : Outcome ℕ} → rootSaid r ≡ o
+      → examinedOf (bind o (mapExamine compareKeys (reader image newest m kind))) ≡ examinedOf (examineIn image newest m kind)
+  unfolding examineIn
+  by-root e = rw (← e, is)
+
+  pub map-refused : {x : Refusal} → r ≡ root.Refused x → examined.Refused x ≡ examinedOf (examineIn image newest m kind)
+  unfolding examinedOf
+  map-refused e = by-root (ap rootSaid e)
+
+  module _ {p : ℕ} (e : r ≡ root.At p) where
+    pub map-empty : p ≡ 0 → examined.Passed (record { entries = 0; pages = 0; depth = 0 }) ≡ examinedOf (examineIn image newest m kind)
+    unfolding examinedOf mapExamine
+    map-empty z = by-root (ap rootSaid e ∙ ap ok z)
+
+    pub map-examined : ¬ (p ≡ 0) → examined-at image newest m kind 16 true bound.Open bound.Open p ≡ examinedOf (examineIn image newest m kind)
+    unfolding mapExamine boundKey
+    map-examined other = go p other (by-root (ap rootSaid e))
+      where
+        go : (q : ℕ) → ¬ (q ≡ 0)
+            → examinedOf (mapExamine compareKeys (reader image newest m kind) q) ≡ examinedOf (examineIn image newest m kind)
+            → examinedOf (examine compareKeys (reader image newest m kind) 16 true none none q) ≡ examinedOf (examineIn image newest m kind)
+        go zero h k = absurd (h refl)
+        go (suc q) h k = k

@@ -1,0 +1,71 @@
+-- Laws of a page that is read by its position: one for each way that the code takes, and that it is the page as data.
+use Prim.Native.Nat.{ℕ}
+use mathlib.Core.Path.{_≡_, refl, _∙_, ap}
+use mathlib.Core.Bool.{Bool, true, false}
+use mathlib.Core.List.{List}
+use lib.Dec.{eqb}
+use borrow.Author.Tests.{eq-eqb, ne-eqb}
+use Rattle.refusal.specs.declared.Refusal.{Refusal}
+use Rattle.refusal.specs.Refusal.{Outcome, ok, refuse, bind, outOfPlace}
+use Rattle.position.specs.Position.{chunkOf}
+use Rattle.key.specs.declared.Kind.{Kind}
+use Rattle.opening.specs.declared.chunk.Chunk.{Chunk}
+use Rattle.tree.specs.Page.{branch}
+use Rattle.page.specs.declared.Place.{Place}
+use Rattle.page.specs.declared.Judged.the-variants as judged
+use Rattle.page.specs.Judged.{judgedAt}
+use Rattle.content.specs.Content.{pageOf, pageIn}
+use Rattle.content.specs.WholeLaws.{Whole, judged-whole}
+use Rattle.store.specs.declared.Told.{Told}
+use Rattle.store.specs.declared.Told.the-variants as told
+use Rattle.store.specs.Store.{chunkAt, reader, placeSaid}
+use Rattle.store.specs.Asking.{judgedIn, judgedBy}
+use Rattle.store.specs.Memory.{TellsOf}
+use Rattle.store.specs.Steps.{locatedBy}
+use Rattle.store.specs.AnswerLaws.{place-told}
+
+module _ (image : List ℕ) (newest : Chunk) (map : ℕ) (kind : Kind) (p : ℕ) where
+  -- ## The ways that the code takes
+  pub judged-zero : p ≡ 0 → {r : Refusal} → r ≡ outOfPlace → judged.Refused r ≡ judgedBy image newest map kind p
+  unfolding judgedBy
+  judged-zero e i = rw (eq-eqb p 0 e, i)
+
+  judged-chunk : ¬ (p ≡ 0) → {o : Outcome Place} → o ≡ chunkAt image newest 8 (chunkOf p)
+      → judgedIn (λ c. judgedAt image c p map kind) o ≡ judgedBy image newest map kind p
+  unfolding judgedBy
+  judged-chunk other e = rw (ne-eqb p 0 other, e)
+
+  module _ (other : ¬ (p ≡ 0)) {c : ℕ} (t : Told) (e : c ≡ chunkOf p) (tells : TellsOf image newest 8 c t) where
+    judged-told : judgedIn (λ l. judgedAt image l p map kind) (placeSaid (locatedBy t)) ≡ judgedBy image newest map kind p
+    judged-told = judged-chunk other (place-told image newest c t tells ∙ ap (chunkAt image newest 8) e)
+
+    pub judged-there : {l : Place} {n : ℕ} → t ≡ told.At l n → judgedAt image l p map kind ≡ judgedBy image newest map kind p
+    unfolding locatedBy
+    judged-there i = rw i at judged-told
+
+    pub judged-nowhere : {r : Refusal} → t ≡ told.Refused r → judged.Refused r ≡ judgedBy image newest map kind p
+    unfolding locatedBy
+    judged-nowhere i = rw i at judged-told
+
+  -- ## As data
+  pub reader-judged : reader image newest map kind p ≡ pageOf image kind (judgedBy image newest map kind p)
+  unfolding reader judgedBy pageIn pageOf
+  reader-judged = go (eqb p 0) (chunkAt image newest 8 (chunkOf p))
+    where
+      go : (t : Bool) (o : Outcome Place)
+          → branch t (refuse outOfPlace) (bind o (λ c. pageIn image c p map kind))
+          ≡ pageOf image kind (branch t (judged.Refused outOfPlace) (judgedIn (λ c. judgedAt image c p map kind) o))
+      go true o = refl
+      go false (ok c) = refl
+      go false (refuse r) = refl
+
+  -- nothing is missing from a page that is judged good
+  pub judged-all : Whole image kind (judgedBy image newest map kind p)
+  unfolding judgedBy
+  judged-all = go (eqb p 0) (chunkAt image newest 8 (chunkOf p))
+    where
+      go : (t : Bool) (o : Outcome Place)
+          → Whole image kind (branch t (judged.Refused outOfPlace) (judgedIn (λ c. judgedAt image c p map kind) o))
+      go true o = tt
+      go false (ok c) = judged-whole image c p map kind
+      go false (refuse r) = tt

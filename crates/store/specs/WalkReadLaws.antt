@@ -1,0 +1,384 @@
+-- Laws of the walk's two ways down, one for each way that the code takes.
+--
+--   FirstBy p a           what the first child or entry a of the page at p says of the leftmost way
+--   NextBy .. l p a       what a, which follows number l at the page at p, says of the way by the numbers
+--   pastOf nums found x   the answer where no entry is left below: the child at x after the one used at level `found`, counted from 1
+--   Going .. l p ..       how far the way by the numbers has come: number l is used at the page at p
+--   Lefting .. depth q    how far the leftmost way has come: `depth` numbers lead to the page at q
+use Prim.Native.Nat.{ℕ, zero, suc, _+_, _-_, _≤_, _<_}
+use mathlib.Core.Path.{_≡_, refl, sym, _∙_, ap}
+use mathlib.Core.Bool.{Bool, true, false, cond}
+use mathlib.Core.Logic.{_⊎_, inl, inr, ⊎-elim}
+use mathlib.Core.List.{List, [], _∷_, _++_}
+use mathlib.Core.Option.{Option, none, some}
+use native.Mathlib.Numerals.{add-one}
+use native.Mathlib.Omega.{arith}
+use lib.Dec.{eqb, ltb, leb}
+use lib.ListN.{length, getD, getElem?, take, replicate}
+use lib.Seq.{length-take-le, getD-take}
+use borrow.Author.Tests.{eqb-true, eqb-false, ltb-true, ltb-false, leb-true, leb-false, ne-eqb}
+use Rattle.refusal.specs.declared.Refusal.{Refusal}
+use Rattle.refusal.specs.Refusal.{ok, unsound, tooDeep}
+use Rattle.key.specs.declared.Kind.{Kind}
+use Rattle.key.specs.Key.{Key}
+use Rattle.tree.specs.Page.{leaf, inner}
+use Rattle.tree.specs.InnerPage.{childrenOf}
+use Rattle.tree.specs.Walk.{Moved, over, stop, mapNext}
+use Rattle.tree.specs.WalkLaws.{child-some, child-none, first-child, prefixed, raised, leftmostAt, nextAt, map-next}
+use Rattle.tree.specs.WalkLaws.{leftmost-deep, leftmost-refused, leftmost-empty-root, leftmost-empty-below, leftmost-entry, leftmost-inner}
+use Rattle.tree.specs.WalkLaws.{at-refused, at-too-deep, at-no-entry, at-entry, at-over, at-too-high, at-no-child, at-last-child, at-child}
+use Rattle.opening.specs.declared.chunk.Chunk.{Chunk}
+use Rattle.page.specs.declared.Judged.{Judged}
+use Rattle.page.specs.declared.Judged.the-variants as judged
+use Rattle.content.specs.declared.Nth.the-variants as nth
+use Rattle.content.specs.Content.{Entry, entriesIn, positionsIn, countsIn, keysIn, nthOf, pageOf}
+use Rattle.content.specs.WholeLaws.{Whole}
+use Rattle.store.specs.declared.walking.Yield.the-variants as yields
+use Rattle.store.specs.declared.down.After.{After}
+use Rattle.store.specs.declared.down.After.the-variants as after
+use Rattle.store.specs.declared.down.Down.{Down}
+use Rattle.store.specs.declared.down.Down.the-variants as down
+use Rattle.store.specs.declared.down.Leftmost.the-variants as leftmost
+use Rattle.store.specs.Store.{reader}
+use Rattle.store.specs.Asking.{judgedBy}
+use Rattle.store.specs.Walk.{yieldOf}
+use Rattle.store.specs.WalkSteps.{entryAfter, afterChild, afterOf, firstOf, overOf}
+use Rattle.store.specs.WalkWays.{CameLeft, CameDown}
+use Rattle.store.specs.ReadLaws.{reader-judged, judged-all}
+
+-- ## An entry by its number, as the code reads it
+entry-after : (o : Option (Key × Entry)) {k z at len : ℕ} → nthOf o ≡ nth.Entry k z at len → after.Entry k z at len ≡ entryAfter o
+entry-after none e = absurd (let z : _≡_ {A = ℕ} 0 1 = cc in omega arith)
+entry-after (some x) e = cc
+
+over-after : (o : Option (Key × Entry)) → nthOf o ≡ nth.Out → after.Over ≡ entryAfter o
+over-after none e = refl
+over-after (some x) e = absurd (let z : _≡_ {A = ℕ} 0 1 = cc in omega arith)
+
+module _ (image : List ℕ) (kind : Kind) (n keys values e i : ℕ) (s : List ℕ) (c : s ≡ take e image) where
+  pub entry-there : {k z at len : ℕ} → nthOf (getElem? (entriesIn s kind n keys values) i) ≡ nth.Entry k z at len
+      → after.Entry k z at len ≡ entryAfter (getElem? (entriesIn (take e image) kind n keys values) i)
+  entry-there h = rw (← c) (entry-after (getElem? (entriesIn s kind n keys values) i) h)
+
+  pub entry-out : nthOf (getElem? (entriesIn s kind n keys values) i) ≡ nth.Out
+      → after.Over ≡ entryAfter (getElem? (entriesIn (take e image) kind n keys values) i)
+  entry-out h = rw (← c) (over-after (getElem? (entriesIn s kind n keys values) i) h)
+
+module _ (image : List ℕ) (kind : Kind) {j : Judged} {n keys values e : ℕ} (i : j ≡ judged.Leaf n keys values e)
+    (s : List ℕ) (c : s ≡ take e image) where
+  pub first-there : {k z at len : ℕ} → nthOf (getElem? (entriesIn s kind n keys values) 0) ≡ nth.Entry k z at len
+      → after.Entry k z at len ≡ firstOf image kind j
+  unfolding firstOf
+  first-there h = rw i (entry-there image kind n keys values e 0 s c h)
+
+  pub first-out : nthOf (getElem? (entriesIn s kind n keys values) 0) ≡ nth.Out → after.Over ≡ firstOf image kind j
+  unfolding firstOf
+  first-out h = rw i (entry-out image kind n keys values e 0 s c h)
+
+nth-cases : {A : Type 0} (l : List A) (i : ℕ)
+    → ((e : A) × (getElem? l i ≡ some e) × (i < length l) × (getD l i e ≡ e)) ⊎ ((getElem? l i ≡ none) × (length l ≤ i))
+nth-cases [] i = inr (refl, omega arith)
+nth-cases (x ∷ l) zero = inl (x, refl, omega arith, refl)
+nth-cases (x ∷ l) (suc i) =
+    ⊎-elim (λ w. inl (w .0, w .1, omega (arith, w .2), w .3)) (λ w. inr (w .0, omega (arith, w .1))) (nth-cases l i)
+
+-- ## One page
+module _ (image : List ℕ) (newest : Chunk) (map : ℕ) (kind : Kind) where
+  abbrev FirstBy : ℕ → After → Type 0
+  FirstBy p (after.Entry key size at len) =
+      (e : Key × Entry) × (yieldOf e ≡ yields.Entry key size at len) ×
+      ((pre : List ℕ) (k : ℕ) → length pre + k < 16
+      → leftmostAt (reader image newest map kind) pre k p ≡ prefixed (pre ++ replicate k 0) e 0 [])
+  FirstBy p after.Over =
+      (pre : List ℕ) (k : ℕ) → length pre + k < 16
+      → (length pre + k ≡ 0 → leftmostAt (reader image newest map kind) pre k p ≡ over) ×
+      (0 < length pre + k → leftmostAt (reader image newest map kind) pre k p ≡ stop unsound)
+  FirstBy p (after.Last q) =
+      (pre : List ℕ) (k : ℕ) → length pre + k < 16
+      → leftmostAt (reader image newest map kind) pre k p ≡ leftmostAt (reader image newest map kind) pre (suc k) q
+  FirstBy p (after.Child q x) = ⊥
+  FirstBy p (after.Refused r) =
+      (pre : List ℕ) (k : ℕ) → length pre + k < 16 → leftmostAt (reader image newest map kind) pre k p ≡ stop r
+
+  leaf-first : (p : ℕ) (es : List (Key × Entry)) → reader image newest map kind p ≡ ok (leaf es) → FirstBy p (entryAfter (getElem? es 0))
+  leaf-first p [] e = λ pre k room. (
+    λ z. leftmost-empty-root (reader image newest map kind) pre k p room [] e z refl,
+    λ b. leftmost-empty-below (reader image newest map kind) pre k p room [] e b refl,
+  )
+  leaf-first p (x ∷ es) e =
+      (x, refl, λ pre k room. leftmost-entry (reader image newest map kind) pre k p room (x ∷ es) e x (omega arith))
+
+  first-judged : (p : ℕ) (j : Judged) → reader image newest map kind p ≡ pageOf image kind j → FirstBy p (firstOf image kind j)
+  unfolding pageOf firstOf
+  first-judged p (judged.Refused r) e = λ pre k room. leftmost-refused (reader image newest map kind) pre k p room r e
+  first-judged p (judged.Leaf n keys values end) e = leaf-first p (entriesIn (take end image) kind n keys values) e
+  first-judged p (judged.Inner n positions counts keys end total) e = λ pre k room.
+      let s = take end image in
+      let ps = positionsIn s (n + 1) positions in
+      let ns = countsIn s (n + 1) counts in
+      let ks = keysIn s kind n keys in
+      leftmost-inner (reader image newest map kind) pre k p room (childrenOf ps ns ks) e
+      ∙ ap (leftmostAt (reader image newest map kind) pre (suc k)) (first-child ps ns ks)
+
+  first-by : (p : ℕ) → FirstBy p (firstOf image kind (judgedBy image newest map kind p))
+  first-by p = first-judged p (judgedBy image newest map kind p) (reader-judged image newest map kind p)
+
+  module _ (nums : List ℕ) (past : Moved (Key × Entry)) (l p : ℕ) where
+    abbrev NextBy : After → Type 0
+    NextBy (after.Entry key size at len) =
+        (e : Key × Entry) × (yieldOf e ≡ yields.Entry key size at len) × (suc l ≡ length nums) ×
+        (nextAt (reader image newest map kind) nums past l p ≡ prefixed (take l nums) e (suc (getD nums l 0)) []) × (getD nums l 0 < 0x80000000)
+    NextBy after.Over = nextAt (reader image newest map kind) nums past l p ≡ past
+    NextBy (after.Last q) =
+        (suc l < length nums) ×
+        (nextAt (reader image newest map kind) nums past l p ≡ nextAt (reader image newest map kind) nums past (suc l) q)
+    NextBy (after.Child q x) =
+        (suc l < length nums) ×
+        (nextAt (reader image newest map kind) nums past l p
+        ≡ nextAt (reader image newest map kind) nums (leftmostAt (reader image newest map kind) (raised nums l) 0 x) (suc l) q)
+        × (getD nums l 0 < 0x80000000)
+    NextBy (after.Refused r) = nextAt (reader image newest map kind) nums past l p ≡ stop r
+
+    module _ (room : l < 16) (below : l < length nums) where
+      module _ (es : List (Key × Entry)) (e : reader image newest map kind p ≡ ok (leaf es)) (n : ℕ) (few : n < 0x80000000) (whole : length es ≡ n)
+          (end : suc l ≡ length nums) where
+        leaf-next : n ≤ getD nums l 0 → NextBy (after.Refused unsound)
+        leaf-next h = at-no-entry (reader image newest map kind) nums past l p room es e end (omega arith)
+
+        leaf-end : (b : Bool) → leb n (getD nums l 0) ≡ b
+            → NextBy (cond b (after.Refused unsound) (entryAfter (getElem? es (getD nums l 0 + 1))))
+        leaf-end true h = leaf-next (leb-true n (getD nums l 0) h)
+        leaf-end false h =
+            let i = getD nums l 0 in
+            let there : i < n = leb-false n i h in
+            rw (add-one (getD nums l 0))
+            (⊎-elim
+            (λ w. rw (w .1) (
+              w .0,
+              refl,
+              end,
+              at-entry (reader image newest map kind) nums past l p room es e end (w .0) (w .2)
+                  ∙ ap (λ x. prefixed (take l nums) x (suc i) []) (w .3),
+              omega (arith, few, there),
+            ))
+            (λ w. rw (w .0) (at-over (reader image newest map kind) nums past l p room es e end (omega (arith, w .1))))
+            (nth-cases es (suc (getD nums l 0))))
+
+      module _ (ps ns : List ℕ) (ks : List Key) (e : reader image newest map kind p ≡ ok (inner (childrenOf ps ns ks))) (n : ℕ)
+          (few : n < 0x80000000) (whole : length ks ≡ n) (more : suc l < length nums) where
+        inner-at : getD nums l 0 ≤ n → (b : Bool) → eqb (getD nums l 0) n ≡ b
+            → NextBy (cond b (after.Last (getD ps (getD nums l 0) 0))
+            (after.Child (getD ps (getD nums l 0) 0) (getD ps (getD nums l 0 + 1) 0)))
+        inner-at low true h =
+            let i = getD nums l 0 in
+            let same : i ≡ n = eqb-true i n h in (
+              more,
+              at-last-child (reader image newest map kind) nums past l p room (childrenOf ps ns ks) e more (getD ps i 0)
+                  (child-some i ps ns ks (omega arith)) (child-none (suc i) ps ns ks (omega arith)),
+            )
+        inner-at low false h =
+            let i = getD nums l 0 in
+            let other = eqb-false i n h in
+            rw (add-one (getD nums l 0)) (
+              more,
+              at-child (reader image newest map kind) nums past l p room (childrenOf ps ns ks) e more (getD ps i 0) (getD ps (suc i) 0)
+                  (child-some i ps ns ks (omega arith)) (child-some (suc i) ps ns ks (omega (arith, other))),
+              omega (arith, few, low),
+            )
+
+        inner-next : (b : Bool) → ltb n (getD nums l 0) ≡ b
+            → NextBy (cond b (after.Refused unsound) (cond (eqb (getD nums l 0) n) (after.Last (getD ps (getD nums l 0) 0))
+            (after.Child (getD ps (getD nums l 0) 0) (getD ps (getD nums l 0 + 1) 0))))
+        inner-next true h =
+            let high : n < getD nums l 0 = ltb-true n (getD nums l 0) h in
+            at-no-child (reader image newest map kind) nums past l p room (childrenOf ps ns ks) e more
+            (child-none (getD nums l 0) ps ns ks (omega arith))
+        inner-next false h = inner-at (ltb-false n (getD nums l 0) h) (eqb (getD nums l 0) n) refl
+
+      next-judged : (j : Judged) → Whole image kind j → reader image newest map kind p ≡ pageOf image kind j
+          → (t : Bool) → eqb (l + 1) (length nums) ≡ t → NextBy (afterOf image kind (getD nums l 0) t j)
+      unfolding pageOf afterOf afterChild
+      next-judged (judged.Refused r) w e t h = at-refused (reader image newest map kind) nums past l p room r e
+      next-judged (judged.Leaf n keys values end) w e false h =
+          let other = eqb-false (l + 1) (length nums) h in
+          at-too-deep (reader image newest map kind) nums past l p room (entriesIn (take end image) kind n keys values) e (omega (arith, other))
+      next-judged (judged.Leaf n keys values end) w e true h =
+          let same : l + 1 ≡ length nums = eqb-true (l + 1) (length nums) h in
+          leaf-end (entriesIn (take end image) kind n keys values) e n (w .few) (w .all-entries) (omega arith) (leb n (getD nums l 0)) refl
+      next-judged (judged.Inner n positions counts keys end total) w e true h =
+          let same : l + 1 ≡ length nums = eqb-true (l + 1) (length nums) h in
+          let s = take end image in
+          at-too-high (reader image newest map kind) nums past l p room
+          (childrenOf (positionsIn s (n + 1) positions) (countsIn s (n + 1) counts) (keysIn s kind n keys)) e (omega arith)
+      next-judged (judged.Inner n positions counts keys end total) w e false h =
+          let other = eqb-false (l + 1) (length nums) h in
+          let s = take end image in
+          inner-next (positionsIn s (n + 1) positions) (countsIn s (n + 1) counts) (keysIn s kind n keys) e n (w .few) (w .all-keys)
+          (omega (arith, other)) (ltb n (getD nums l 0)) refl
+
+      next-by : NextBy (afterOf image kind (getD nums l 0) (eqb (l + 1) (length nums)) (judgedBy image newest map kind p))
+      next-by =
+          next-judged (judgedBy image newest map kind p) (judged-all image newest map kind p) (reader-judged image newest map kind p)
+          (eqb (l + 1) (length nums)) refl
+
+  -- ## The way by the numbers
+  unfoldable pub pastOf : List ℕ → ℕ → ℕ → Moved (Key × Entry)
+  pastOf nums found x = cond (eqb found 0) over (leftmostAt (reader image newest map kind) (raised nums (found - 1)) 0 x)
+
+  past-came : (nums : List ℕ) (root found number x : ℕ) → found ≤ length nums
+      → ((found ≡ 0 → ⊥) → number ≡ suc (getD nums (found - 1) 0))
+      → mapNext (reader image newest map kind) nums root ≡ pastOf nums found x
+      → CameDown image newest map kind nums root (overOf found number x)
+  unfolding pastOf overOf CameDown
+  past-came nums root found number x few raise e = go (eqb found 0) refl e
+    where
+      go : (b : Bool) → eqb found 0 ≡ b
+          → mapNext (reader image newest map kind) nums root
+          ≡ cond b over (leftmostAt (reader image newest map kind) (raised nums (found - 1)) 0 x)
+          → CameDown image newest map kind nums root (cond b down.Over (down.Left (found - 1) number x))
+      go true h m = m
+      go false h m =
+          let other = eqb-false found 0 h in
+          (omega (arith, other), raise other, m)
+
+  module _ (places : List ℕ) (depth root : ℕ) where
+    pub record Going (l p found number x : ℕ) : Type 0 where
+      pub below : l < depth
+      pub back : found ≤ l
+      pub raise : (found ≡ 0 → ⊥) → number ≡ suc (getD (take depth places) (found - 1) 0)
+      pub same : nextAt (reader image newest map kind) (take depth places) (pastOf (take depth places) found x) l p
+          ≡ mapNext (reader image newest map kind) (take depth places) root
+
+    module _ (fits : depth ≤ length places) (most : depth ≤ 16) where
+      sized : length (take depth places) ≡ depth
+      sized = length-take-le depth places fits
+
+      pub going-root : 0 < depth → 0 < root → (number x : ℕ) → Going 0 root 0 number x
+      unfolding pastOf
+      going-root some-number filled number x = record {
+        below = some-number;
+        back = omega arith;
+        raise = λ other. absurd (other refl);
+        same = sym (map-next (reader image newest map kind) (take depth places) root (omega (arith, sized)) filled);
+      }
+
+      module _ {l p found number x : ℕ} (g : Going l p found number x) {j : Judged} (r : j ≡ judgedBy image newest map kind p)
+          {a : After} (f : a ≡ afterOf image kind (getD places l 0) (eqb (l + 1) depth) j) where
+        here : getD (take depth places) l 0 ≡ getD places l 0
+        here = getD-take depth places l 0 (g .below)
+
+        turned : {b : After} → a ≡ b → NextBy (take depth places) (pastOf (take depth places) found x) l p b
+        turned {b} came =
+            let low : l < depth = g .below in
+            let nums = take depth places in
+            let e : afterOf image kind (getD nums l 0) (eqb (l + 1) (length nums)) (judgedBy image newest map kind p) ≡ b =
+            rw (here, sized, ← r, ← f) came in
+            rw e at (next-by (take depth places) (pastOf (take depth places) found x) l p (omega arith) (omega (arith, sized)))
+
+        pub going-refused : {y : Refusal} → a ≡ after.Refused y → CameDown image newest map kind (take depth places) root (down.Refused y)
+        unfolding CameDown
+        going-refused came = sym (g .same) ∙ turned came
+
+        pub going-entry : {key size at len : ℕ} → a ≡ after.Entry key size at len
+            → CameDown image newest map kind (take depth places) root (down.Entry l (getD places l 0 + 1) key size at len)
+        unfolding CameDown
+        going-entry came =
+            let t = turned came in
+            let up : suc (getD (take depth places) l 0) ≡ getD places l 0 + 1 = omega (arith, here) in
+            (t .0, t .1, t .2, sym up, sym (g .same) ∙ t .3 ∙ ap (λ n. prefixed (take l (take depth places)) (t .0) n []) up)
+
+        -- the number after it is one that the state can hold
+        pub entry-few : {key size at len : ℕ} → a ≡ after.Entry key size at len → getD places l 0 < 0x80000000
+        entry-few came = omega (arith, turned came .4, here)
+
+        pub child-few : {q y : ℕ} → a ≡ after.Child q y → getD places l 0 < 0x80000000
+        child-few came = omega (arith, turned came .2, here)
+
+        pub going-over : a ≡ after.Over → {d : Down} → d ≡ overOf found number x → CameDown image newest map kind (take depth places) root d
+        going-over came e =
+            rw e (past-came (take depth places) root found number x (omega (arith, sized, g .below, g .back)) (g .raise)
+            (sym (g .same) ∙ turned came))
+
+        pub going-last : {q : ℕ} → a ≡ after.Last q → Going (l + 1) q found number x
+        going-last {q} came =
+            let t = turned came in
+            record {
+              below = omega (arith, t .0, sized);
+              back = omega (arith, g .back);
+              raise = g .raise;
+              same = rw (add-one l) (sym (t .1) ∙ g .same);
+            }
+
+        pub going-child : {q y : ℕ} → a ≡ after.Child q y → Going (l + 1) q (l + 1) (getD places l 0 + 1) y
+        unfolding pastOf
+        going-child {q} {y} came =
+            let t = turned came in
+            let back : l + 1 - 1 ≡ l = omega arith in
+            record {
+              below = omega (arith, t .0, sized);
+              back = omega arith;
+              raise = λ other. rw back (omega (arith, here));
+              same = rw (ne-eqb (l + 1) 0 (λ z. omega arith), back, add-one l) (sym (t .1) ∙ g .same);
+            }
+
+  -- ## The leftmost way
+  pub record Lefting (level p depth q : ℕ) : Type 0 where
+    pub low : level ≤ depth
+    pub most : depth ≤ 16
+    pub same : (pre : List ℕ) → length pre ≡ level
+        → leftmostAt (reader image newest map kind) pre 0 p ≡ leftmostAt (reader image newest map kind) pre (depth - level) q
+
+  pub lefting-start : (level p : ℕ) → level ≤ 16 → Lefting level p level p
+  lefting-start level p h =
+      let none-yet : level - level ≡ 0 = omega arith in
+      record { low = omega arith; most = h; same = λ pre e. rw none-yet }
+
+  module _ {level p depth q : ℕ} (g : Lefting level p depth q) where
+    pub lefting-deep : 16 ≤ depth → {r : Refusal} → r ≡ tooDeep → CameLeft image newest map kind level p (leftmost.Refused r)
+    unfolding CameLeft
+    lefting-deep h i = λ pre e. g .same pre e
+        ∙ leftmost-deep (reader image newest map kind) pre (depth - level) q (omega (arith, g .low)) ∙ ap stop (sym i)
+
+    module _ (room : depth < 16) {j : Judged} (r : j ≡ judgedBy image newest map kind q) {a : After} (f : a ≡ firstOf image kind j) where
+      firsted : {b : After} → a ≡ b → FirstBy q b
+      firsted {b} came =
+          let e : firstOf image kind (judgedBy image newest map kind q) ≡ b = rw (← r, ← f) came in
+          rw e at (first-by q)
+
+      pub lefting-refused : {y : Refusal} → a ≡ after.Refused y → CameLeft image newest map kind level p (leftmost.Refused y)
+      unfolding CameLeft
+      lefting-refused came = λ pre e. g .same pre e ∙ firsted came pre (depth - level) (omega (arith, g .low))
+
+      pub lefting-entry : {key size at len : ℕ} → a ≡ after.Entry key size at len
+          → CameLeft image newest map kind level p (leftmost.Entry (depth + 1) key size at len)
+      unfolding CameLeft
+      lefting-entry came =
+          let t = firsted came in
+          let down : depth + 1 - 1 - level ≡ depth - level = omega arith in
+          (t .0, t .1, omega (arith, g .low), omega arith, λ pre e. rw down (g .same pre e ∙ t .2 pre (depth - level) (omega (arith, g .low))))
+
+      pub lefting-over : a ≡ after.Over → depth ≡ 0 → CameLeft image newest map kind level p leftmost.Over
+      unfolding CameLeft
+      lefting-over came z = λ pre e.
+          g .same pre e ∙ firsted came pre (depth - level) (omega (arith, g .low)) .0 (omega (arith, g .low))
+
+      pub lefting-empty : a ≡ after.Over → (depth ≡ 0 → ⊥) → {y : Refusal} → y ≡ unsound
+          → CameLeft image newest map kind level p (leftmost.Refused y)
+      unfolding CameLeft
+      lefting-empty came other i = λ pre e.
+          g .same pre e ∙ firsted came pre (depth - level) (omega (arith, g .low)) .1 (omega (arith, g .low, other)) ∙ ap stop (sym i)
+
+      pub lefting-last : {z : ℕ} → a ≡ after.Last z → Lefting level p (depth + 1) z
+      lefting-last {z} came =
+          let t = firsted came in
+          record {
+            low = omega (arith, g .low);
+            most = omega arith;
+            same = λ pre e.
+                let more : depth + 1 - level ≡ suc (depth - level) = omega (arith, g .low) in
+                rw more (g .same pre e ∙ t pre (depth - level) (omega (arith, g .low)));
+          }
+
+      -- the first child has no other noted with it
+      pub lefting-child : {z x : ℕ} → a ≡ after.Child z x → ⊥
+      lefting-child came = firsted came

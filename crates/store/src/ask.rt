@@ -1,0 +1,105 @@
+// Lookup, index and count of a map, by its id and kind, in a store that is open.
+use super::Counted;
+use super::Fetched;
+use super::Looked;
+use super::QUESTIONS;
+use super::Root;
+use super::Value;
+use super::fetch::fetch_from;
+use super::locate::descend;
+use super::read::read_page;
+use super::read::root_at;
+use key::Kind;
+use opening::Chunk;
+use page::Judged;
+ghost use mathlib.Core.Path.{_≡_};
+ghost use Rattle.key.specs.Key.{keyOf};
+ghost use Rattle.tree.specs.Asking.{mapCount};
+ghost use Rattle.store.specs.Store.{reader};
+ghost use Rattle.store.specs.Memory.{RightWords};
+ghost use Rattle.store.specs.Asking.{lookupIn, indexIn, countIn, valueOf, fetchedOf, countedOf};
+ghost use Rattle.store.specs.Steps.{valueBy};
+
+fn value_by(f: Looked) -> Value
+    ensures { λ r. ⌜ r ≡ valueBy f ⌝ }
+{
+    match f {
+        Looked::Found { at, len, need: _ } => Value::At { at, len },
+        Looked::Absent { need: _ } => Value::Absent,
+        Looked::Refused(r) => Value::Refused(r),
+    }
+}
+
+// The value of `key` in the map.
+pub fn lookup(image: &[u8], newest: Chunk, map: u32, kind: Kind, key: &[u8]) -> Value
+    ensures { λ r. ⌜ r ≡ valueOf (lookupIn (now (image .entry)) newest map kind (keyOf kind (now (key .entry)))) ⌝ }
+{
+    let mut memory = [0u64; 512];
+    let r = root_at(image, newest, &mut memory, map);
+    match r {
+        Root::Refused(r) => Value::Refused(r),
+        Root::At(p) => {
+            let f = descend(image, newest, &mut memory, p, map, kind, key, QUESTIONS);
+            value_by(f)
+        }
+    }
+}
+
+// The entry numbered `index` of the map, from 0.
+pub fn index(image: &[u8], newest: Chunk, map: u32, kind: Kind, index: u64) -> Fetched
+    ensures { λ r. ⌜ r ≡ fetchedOf (indexIn (now (image .entry)) newest map kind index) ⌝ }
+{
+    let mut memory = [0u64; 512];
+    let r = root_at(image, newest, &mut memory, map);
+    match r {
+        Root::Refused(r) => Fetched::Refused(r),
+        Root::At(p) => fetch_from(image, newest, &mut memory, p, map, kind, index),
+    }
+}
+
+// How many entries the page at the root has or records.
+fn count_from(
+    image: &[u8],
+    newest: Chunk,
+    memory: &mut [u64; 512],
+    root: u64,
+    map: u32,
+    kind: Kind,
+) -> Counted
+    requires { ⌜ RightWords (now image) newest (now memory) ⌝ }
+    ensures { λ r. ⌜ r ≡ countedOf (mapCount (reader (now (image .entry)) newest map kind) root) ⌝ }
+{
+    if root == 0 {
+        return Counted::Is(0);
+    }
+    let j = read_page(image, newest, memory, root, map, kind);
+    match j {
+        Judged::Refused(r) => Counted::Refused(r),
+        Judged::Leaf {
+            n,
+            keys: _,
+            values: _,
+            end: _,
+        } => Counted::Is(n as u64),
+        Judged::Inner {
+            n: _,
+            positions: _,
+            counts: _,
+            keys: _,
+            end: _,
+            total,
+        } => Counted::Is(total),
+    }
+}
+
+// How many entries the map has, by its root.
+pub fn count(image: &[u8], newest: Chunk, map: u32, kind: Kind) -> Counted
+    ensures { λ r. ⌜ r ≡ countedOf (countIn (now (image .entry)) newest map kind) ⌝ }
+{
+    let mut memory = [0u64; 512];
+    let r = root_at(image, newest, &mut memory, map);
+    match r {
+        Root::Refused(r) => Counted::Refused(r),
+        Root::At(p) => count_from(image, newest, &mut memory, p, map, kind),
+    }
+}

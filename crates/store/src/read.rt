@@ -1,0 +1,65 @@
+// A page of a map by its position, and a map's root, with what the call remembers.
+use super::Looked;
+use super::QUESTIONS;
+use super::Root;
+use super::Told;
+use super::keys::number_key;
+use super::locate::descend;
+use super::locate::locate;
+use super::root_by;
+use key::Kind;
+use opening::Chunk;
+use page::Judged;
+use position::Position;
+use refusal::Refusal;
+ghost use mathlib.Core.Path.{_≡_};
+ghost use Rattle.store.specs.Store.{mapRoot, rootSaid};
+ghost use Rattle.store.specs.Memory.{RightWords};
+ghost use Rattle.store.specs.Asking.{judgedBy};
+
+// The page at `p`, due for a map of a kind, as it is judged: child position 0, then location, then
+// the page's own rules.
+pub(crate) fn read_page(
+    image: &[u8],
+    newest: Chunk,
+    memory: &mut [u64; 512],
+    p: u64,
+    map: u32,
+    kind: Kind,
+) -> Judged
+    requires { ⌜ RightWords (now image) newest (now memory) ⌝ }
+    ensures { λ r. ⌜ RightWords (now (image .entry)) newest (now (memory .exit)) × (r ≡ judgedBy (now (image .entry)) newest map kind p) ⌝ }
+{
+    if p == 0 {
+        return Judged::Refused(Refusal::new(Refusal::PLACE));
+    }
+    let at = Position { bits: p };
+    let t = locate(image, newest, memory, at.chunk(), QUESTIONS);
+    match t {
+        Told::At { place, need: _ } => page::judge(image, place, at, map, kind),
+        Told::Refused(r) => Judged::Refused(r),
+    }
+}
+
+// The root of the map that has an id; the metadata is map 0.
+pub(crate) fn root_at(image: &[u8], newest: Chunk, memory: &mut [u64; 512], map: u32) -> Root
+    requires { ⌜ RightWords (now image) newest (now memory) ⌝ }
+    ensures { λ r. ⌜ RightWords (now (image .entry)) newest (now (memory .exit)) × (rootSaid r ≡ mapRoot (now (image .entry)) newest map) ⌝ }
+{
+    if map == 0 {
+        return Root::At(newest.root);
+    }
+    let mut key = [0u8; 1024];
+    let n = number_key(&mut key, b"root.", map as u64);
+    let f = descend(
+        image,
+        newest,
+        memory,
+        newest.root,
+        0,
+        Kind::Text,
+        &key[..n],
+        QUESTIONS,
+    );
+    root_by(image, f)
+}
