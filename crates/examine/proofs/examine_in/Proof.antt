@@ -1,0 +1,19 @@
+use mathlib.Core.Path.{refl, sym, _∙_, ap}
+use denote.Ref.{now}
+use Rattle.store.specs.Examining.{examinedOf}
+use Rattle.map.specs.MapLaws.{asking-shut, asking-open}
+use borrow.Author.Needs.{needs}
+use Rattle.examine.proofs.examine_in.Statement.{statement}
+use Rattle.examine.proofs.examine_in.Tie as tie
+
+returns : tie.Need-returns
+unfolding examinedOf
+returns c = sym (ap examinedOf (asking-shut (now (c .before .before .before .before .before .args .image)) _ refl (sym (c .before .before .before .«open» .ensures) ∙ c .before .o .given .1)))
+
+returns-2 : tie.Need-returns-2
+returns-2 c = c .examine .ensures ∙ sym (ap examinedOf (asking-open (now (c .before .before .before .before .before .before .args .image)) _ refl (sym (c .before .before .before .before .«open» .ensures) ∙ c .before .before .o2 .given .1)))
+
+pub examine-in-spec : {M : Type 1} → statement M
+examine-in-spec =
+    tie.close
+    (tie.spec (λ c κs. search needs) (λ c. search needs) (λ c. search needs) (λ c κs. search needs) returns returns-2)

@@ -1,0 +1,10 @@
+-- The examination as a public call, after document 01: arguments, then opening, then the map.
+use Prim.Native.Nat.{ℕ}
+use mathlib.Core.List.{List}
+use Rattle.refusal.specs.Refusal.{Outcome}
+use Rattle.tree.specs.Examination.{Report}
+use Rattle.store.specs.Examining.{examineIn}
+use Rattle.map.specs.Map.{askedMap, asking}
+
+unfoldable pub examineOf : List ℕ → ℕ → ℕ → Outcome Report
+examineOf image map kind = asking (askedMap map kind) image (λ c id k. examineIn image c id k)

@@ -1,0 +1,33 @@
+// The examination of a map by its id and kind. specs/Demand3.antt says what it is worth: a map that it
+// passes answers every lookup, every index and the count as its entry list says.
+use key::Kind;
+use map::Target;
+use opening::Opened;
+use store::Examined;
+ghost use mathlib.Core.Path.{_≡_};
+ghost use Rattle.refusal.specs.Refusal.{ok};
+ghost use Rattle.store.specs.Examining.{examinedOf, examineIn};
+ghost use Rattle.map.specs.Map.{asking};
+ghost use Rattle.examine.specs.Examine.{examineOf};
+
+// The examination of a map that may be asked for.
+fn examine_in(image: &[u8], id: u32, kind: Kind) -> Examined
+    ensures { λ r. ⌜ r ≡ examinedOf (asking (ok (id, kind)) (now (image .entry)) (λ c i k. examineIn (now (image .entry)) c i k)) ⌝ }
+{
+    let o = opening::open(image);
+    match o {
+        Opened::Refused(r) => Examined::Refused(r),
+        Opened::Newest(c) => store::examine(image, c, id, kind),
+    }
+}
+
+// The examination: entries, pages and the deepest page's depth, or the first fault.
+pub fn examine(image: &[u8], map: u64, kind: u64) -> Examined
+    ensures { λ r. ⌜ r ≡ examinedOf (examineOf (now (image .entry)) map kind) ⌝ }
+{
+    let a = map::asked(map, kind);
+    match a {
+        Target::Refused(r) => Examined::Refused(r),
+        Target::Map { id, kind: k } => examine_in(image, id, k),
+    }
+}
