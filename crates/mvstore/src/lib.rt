@@ -1,0 +1,279 @@
+// The C interface, thin: each export answers one small struct by value. The refusal's number comes
+// first, 0 where there is an answer; everything else is 0 where document 01 says so. include/mvstore.h
+// declares it.
+use map::Item;
+use store::Counted;
+use store::Examined;
+use store::Walk;
+use walk::Next;
+ghost use mathlib.Core.Path.{_≡_};
+ghost use lib.ListN.{length};
+ghost use Rattle.store.specs.Store.{idSaid};
+ghost use Rattle.store.specs.Asking.{valueOf, countedOf};
+ghost use Rattle.store.specs.Examining.{examinedOf};
+ghost use Rattle.walk.specs.Stepping.{stepOf};
+ghost use Rattle.examine.specs.Examine.{examineOf};
+ghost use Rattle.map.specs.Map.{lookupOf, indexOf, countOf, copyOf, namedOf, itemOf, areaAfter};
+ghost use Rattle.mvstore.specs.Exports.{valueOut, entryOut, countOut, idOut, stopOut, stepOut, reportOut};
+
+// What lookup and copy answer: `found` is 1 for a value and 0 for Absent.
+#[repr(C)]
+pub struct Value {
+    pub refusal: u32,
+    pub found: u32,
+    pub at: u64,
+    pub len: u64,
+}
+
+// What index answers: a number key as `number`, a text key by place and length; then the value.
+#[repr(C)]
+pub struct Entry {
+    pub refusal: u32,
+    pub number: i64,
+    pub key_at: u64,
+    pub key_len: u64,
+    pub at: u64,
+    pub len: u64,
+}
+
+#[repr(C)]
+pub struct Count {
+    pub refusal: u32,
+    pub count: u64,
+}
+
+#[repr(C)]
+pub struct Id {
+    pub refusal: u32,
+    pub id: u64,
+}
+
+// What a step of the walk answers: `done` is 1 where no entry is left. The state is the caller's to
+// hand in again, after a refusal too.
+#[repr(C)]
+pub struct Step {
+    pub refusal: u32,
+    pub done: u32,
+    pub number: i64,
+    pub key_at: u64,
+    pub key_len: u64,
+    pub at: u64,
+    pub len: u64,
+    pub walk: Walk,
+}
+
+#[repr(C)]
+pub struct Report {
+    pub refusal: u32,
+    pub depth: u32,
+    pub entries: u64,
+    pub pages: u64,
+}
+
+fn value_out(v: store::Value) -> Value
+    ensures { λ r. ⌜ r ≡ valueOut v ⌝ }
+{
+    match v {
+        store::Value::At { at, len } => Value {
+            refusal: 0,
+            found: 1,
+            at: at as u64,
+            len: len as u64,
+        },
+        store::Value::Absent => Value {
+            refusal: 0,
+            found: 0,
+            at: 0,
+            len: 0,
+        },
+        store::Value::Refused(r) => Value {
+            refusal: r.number as u32,
+            found: 0,
+            at: 0,
+            len: 0,
+        },
+    }
+}
+
+fn entry_out(i: Item) -> Entry
+    ensures { λ r. ⌜ r ≡ entryOut i ⌝ }
+{
+    match i {
+        Item::Number { key, at, len } => Entry {
+            refusal: 0,
+            number: key,
+            key_at: 0,
+            key_len: 0,
+            at: at as u64,
+            len: len as u64,
+        },
+        Item::Text { key, size, at, len } => Entry {
+            refusal: 0,
+            number: 0,
+            key_at: key as u64,
+            key_len: size as u64,
+            at: at as u64,
+            len: len as u64,
+        },
+        Item::Refused(r) => Entry {
+            refusal: r.number as u32,
+            number: 0,
+            key_at: 0,
+            key_len: 0,
+            at: 0,
+            len: 0,
+        },
+    }
+}
+
+fn count_out(c: Counted) -> Count
+    ensures { λ r. ⌜ r ≡ countOut c ⌝ }
+{
+    match c {
+        Counted::Is(n) => Count {
+            refusal: 0,
+            count: n,
+        },
+        Counted::Refused(r) => Count {
+            refusal: r.number as u32,
+            count: 0,
+        },
+    }
+}
+
+fn id_out(i: store::Id) -> Id
+    ensures { λ r. ⌜ r ≡ idOut (idSaid i) ⌝ }
+{
+    match i {
+        store::Id::Is(n) => Id {
+            refusal: 0,
+            id: n as u64,
+        },
+        store::Id::Refused(r) => Id {
+            refusal: r.number as u32,
+            id: 0,
+        },
+    }
+}
+
+// A step without an entry.
+fn stop_out(refusal: u32, done: u32, walk: Walk) -> Step
+    ensures { λ r. ⌜ r ≡ stopOut refusal done walk ⌝ }
+{
+    Step {
+        refusal,
+        done,
+        number: 0,
+        key_at: 0,
+        key_len: 0,
+        at: 0,
+        len: 0,
+        walk,
+    }
+}
+
+fn step_out(s: walk::Step) -> Step
+    ensures { λ r. ⌜ r ≡ stepOut s ⌝ }
+{
+    let n = s.next;
+    let walk = s.walk;
+    match n {
+        Next::Number { key, at, len } => Step {
+            refusal: 0,
+            done: 0,
+            number: key,
+            key_at: 0,
+            key_len: 0,
+            at: at as u64,
+            len: len as u64,
+            walk,
+        },
+        Next::Text { key, size, at, len } => Step {
+            refusal: 0,
+            done: 0,
+            number: 0,
+            key_at: key as u64,
+            key_len: size as u64,
+            at: at as u64,
+            len: len as u64,
+            walk,
+        },
+        Next::Done => stop_out(0, 1, walk),
+        Next::Refused(r) => stop_out(r.number as u32, 0, walk),
+    }
+}
+
+fn report_out(e: Examined) -> Report
+    ensures { λ r. ⌜ r ≡ reportOut e ⌝ }
+{
+    match e {
+        Examined::Passed(a) => Report {
+            refusal: 0,
+            depth: a.depth,
+            entries: a.entries,
+            pages: a.pages,
+        },
+        Examined::Refused(r) => Report {
+            refusal: r.number as u32,
+            depth: 0,
+            entries: 0,
+            pages: 0,
+        },
+    }
+}
+
+#[no_mangle]
+pub extern "C" fn mvstore_lookup(image: &[u8], map: u64, kind: u64, key: &[u8]) -> Value
+    ensures { λ r. ⌜ r ≡ valueOut (valueOf (lookupOf (now (image .entry)) map kind (now (key .entry)))) ⌝ }
+{
+    value_out(map::lookup(image, map, kind, key))
+}
+
+#[no_mangle]
+pub extern "C" fn mvstore_index(image: &[u8], map: u64, kind: u64, index: u64) -> Entry
+    ensures { λ r. ⌜ r ≡ entryOut (itemOf (indexOf (now (image .entry)) map kind index)) ⌝ }
+{
+    entry_out(map::index(image, map, kind, index))
+}
+
+#[no_mangle]
+pub extern "C" fn mvstore_count(image: &[u8], map: u64, kind: u64) -> Count
+    ensures { λ r. ⌜ r ≡ countOut (countedOf (countOf (now (image .entry)) map kind)) ⌝ }
+{
+    count_out(map::count(image, map, kind))
+}
+
+#[no_mangle]
+pub extern "C" fn mvstore_copy(
+    image: &[u8],
+    map: u64,
+    kind: u64,
+    key: &[u8],
+    area: &mut [u8],
+) -> Value
+    ensures answer { λ r. ⌜ r ≡ valueOut (valueOf (copyOf (now (image .entry)) map kind (now (key .entry)) (length (now (area .entry))))) ⌝ }
+    ensures area { λ _. ⌜ now (area .exit) ≡ areaAfter (now (image .entry)) (copyOf (now (image .entry)) map kind (now (key .entry)) (length (now (area .entry)))) (now (area .entry)) ⌝ }
+{
+    value_out(map::copy(image, map, kind, key, area))
+}
+
+#[no_mangle]
+pub extern "C" fn mvstore_map(image: &[u8], name: &[u8]) -> Id
+    ensures { λ r. ⌜ r ≡ idOut (namedOf (now (image .entry)) (now (name .entry))) ⌝ }
+{
+    id_out(map::named(image, name))
+}
+
+#[no_mangle]
+pub extern "C" fn mvstore_next(image: &[u8], map: u64, kind: u64, walk: Walk) -> Step
+    ensures { λ r. ⌜ r ≡ stepOut (stepOf (now (image .entry)) map kind walk) ⌝ }
+{
+    step_out(walk::advance(image, map, kind, walk))
+}
+
+#[no_mangle]
+pub extern "C" fn mvstore_examine(image: &[u8], map: u64, kind: u64) -> Report
+    ensures { λ r. ⌜ r ≡ reportOut (examinedOf (examineOf (now (image .entry)) map kind)) ⌝ }
+{
+    report_out(examine::examine(image, map, kind))
+}
