@@ -1,6 +1,8 @@
 //! What stands against the proved library: a plain model written from document 01 alone, and what
 //! it is held against.
 
+#[cfg(archive)]
+pub mod bench;
 pub mod build;
 pub mod check;
 pub mod exchange;

@@ -10,9 +10,9 @@ use std::time::Instant;
 use std::{env, io};
 
 use vihtumora_tests::check::properties::{self, Maps};
-use vihtumora_tests::check::{codes, family, seam, sparse, stores};
+use vihtumora_tests::check::{codes, family, hostile, lengths, many, seam, sparse, stores};
 use vihtumora_tests::model::listing::listing;
-use vihtumora_tests::subject::Judge;
+use vihtumora_tests::subject::{self, Judge, Listing};
 
 /// The random images of the short run.
 const SEED: u64 = 1;
@@ -26,7 +26,17 @@ fn main() -> io::Result<ExitCode> {
     if words == ["--list"] {
         return list();
     }
+    let Some(exports) = subject::exports() else {
+        eprintln!("check: built without the archive of the C exports, so nothing was compared");
+        return Ok(ExitCode::FAILURE);
+    };
+    let Some(program) = env::var_os("MVSTORE_LISTING") else {
+        eprintln!("check: MVSTORE_LISTING names no listing program, so nothing was compared");
+        return Ok(ExitCode::FAILURE);
+    };
     let mut judge = Judge::default();
+    judge.plug(exports);
+    judge.plug(Box::new(Listing { program: program.into() }));
     let good = match words[..] {
         [] => short_run(&mut judge)?,
         ["--long", seed, images] => long_run(&mut judge, number(seed), number(images)),
@@ -62,6 +72,9 @@ fn short_run(judge: &mut Judge) -> io::Result<bool> {
     }
     family::check(judge, &here.join("family/images.txt"))?;
     codes::check(judge);
+    lengths::check(judge);
+    hostile::check(judge);
+    many::check(judge);
     sparse::check(judge)?;
     seam::check(judge);
     let mut maps = Maps::default();
@@ -69,7 +82,7 @@ fn short_run(judge: &mut Judge) -> io::Result<bool> {
         random_image(judge, &mut maps, SEED, number);
     }
     print_maps(&maps);
-    Ok(judge.tally.print_table())
+    Ok(judge.print_tables())
 }
 
 /// "no panic on any bytes": one that panics all the same is named.
@@ -89,7 +102,7 @@ fn long_run(judge: &mut Judge, seed: u64, images: u64) -> bool {
         }
     }
     print_maps(&maps);
-    judge.tally.print_table();
+    judge.print_tables();
     true
 }
 

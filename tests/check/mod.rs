@@ -2,6 +2,9 @@
 
 pub mod codes;
 pub mod family;
+pub mod hostile;
+pub mod lengths;
+pub mod many;
 mod mapped;
 pub mod properties;
 pub mod seam;

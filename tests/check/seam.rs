@@ -4,7 +4,7 @@
 use crate::family::base::standard_base;
 use crate::subject::{Answer, Call, Judge, Question, Reply, Subject};
 
-/// Counts one too many, and offers what the C exports are to offer.
+/// Counts one too many, and offers four calls.
 struct Miscounting;
 
 impl Subject for Miscounting {
@@ -12,13 +12,16 @@ impl Subject for Miscounting {
         "miscounting"
     }
 
+    fn offers(&self, call: Call) -> bool {
+        [Call::Lookup, Call::Index, Call::Count, Call::Copy].contains(&call)
+    }
+
     fn reply(&mut self, image: &[u8], question: &Question) -> Option<Reply> {
         let mut reply = Reply::of_model(image, question);
         if let Answer::Count(count) = &mut reply.answer {
             *count += 1;
         }
-        let offered = [Call::Lookup, Call::Index, Call::Count, Call::Copy];
-        offered.contains(&question.call()).then_some(reply)
+        self.offers(question.call()).then_some(reply)
     }
 }
 

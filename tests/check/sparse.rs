@@ -56,7 +56,7 @@ fn far_chunks(judge: &mut Judge, named: bool) -> io::Result<()> {
     let root = FORCES_PLAN.inner(&mut plan, newest, &leaves).page;
     add_metadata(&mut plan, newest, root);
     let image = mapped(&plan)?;
-    judge.tally.images += 1;
+    judge.image("far chunks");
     let opened = judge.ask(&image, &open()).to_string();
     let due = format!("chunk 6 block {} version 6", MOST_BLOCKS - 1);
     judge.claim(opened == due, || format!("far chunks: {opened}"));
@@ -81,7 +81,7 @@ fn add_metadata(plan: &mut Plan, newest: usize, root: PageRef) {
 /// One block too many is refused with 2; a part block more is not.
 fn too_many_blocks(judge: &mut Judge) -> io::Result<()> {
     let image = Mapped::new((MOST_BLOCKS + 1) * BLOCK)?;
-    judge.tally.images += 1;
+    judge.image("too many blocks");
     for (length, number) in [(image.len(), 2), (image.len() - 1, 3)] {
         for question in every_call().into_iter().chain([open()]) {
             let reply = judge.ask(&image[..length], &question);
@@ -131,7 +131,7 @@ fn long_chunk_case(
         plan.chunks[0].pages.remove(0);
     }
     let image = mapped(&plan)?;
-    judge.tally.images += 1;
+    judge.image(what);
     for question in [open(), count(), lookup(4), index(1), walk(&[]), copy(3, 30)] {
         judge.ask(&image, &question);
     }

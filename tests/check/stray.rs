@@ -51,8 +51,11 @@ fn some_state(random: &mut Random) -> State {
     }
     match random.below(8) {
         0 => state.depth = random.draw() >> random.below(64),
-        1 => state.last = *random.pick(&[1, 12, 16, 17, 254, DONE, u64::MAX]),
-        2 => state.places[random.below(PLACES as u64) as usize] = random.draw(),
+        1 => state.last = *random.pick(&[1, 12, 16, 17, 254, DONE, 256, 1 << 31, u64::MAX]),
+        2 => {
+            let place = random.below(PLACES as u64) as usize;
+            state.places[place] = random.draw() >> random.below(64);
+        }
         _ => {}
     }
     state

@@ -20,5 +20,6 @@ mod hostile;
 mod images;
 mod question;
 
+pub use hostile::{hostile, Path};
 pub use images::{images, Asked};
 pub use question::Question;

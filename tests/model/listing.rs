@@ -9,7 +9,7 @@ use super::reached::reached;
 use super::refusal::{Outcome, IMAGE_SIZE};
 
 /// "program input over 65,536 bytes" is refused with 2.
-const LONGEST_INPUT: usize = 65_536;
+pub const LONGEST_INPUT: usize = 65_536;
 const NAME: &[u8] = b"forces";
 const KIND: u64 = 0;
 

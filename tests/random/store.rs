@@ -77,7 +77,7 @@ fn add_map(random: &mut Random, plan: &mut Plan, i: u64, newest: usize) -> (Rand
         list.clear();
     }
     let map = MapArgs { id: map.id, kind: map.kind };
-    (RandomMap { map, name: format!("m{i}"), entries: list }, root.unwrap_or((0, 0)))
+    (RandomMap { map, name: name(i), entries: list }, root.unwrap_or((0, 0)))
 }
 
 /// In all chunks of the shape, or in the newest alone; none if neither has room.
@@ -103,6 +103,15 @@ fn place(
         tree(random, plan, map, shape, list)
     })?;
     Some((plan.position(root.page), root.levels))
+}
+
+/// The first map is the one that a listing is of.
+fn name(i: u64) -> String {
+    if i == 0 {
+        "forces".to_string()
+    } else {
+        format!("m{i}")
+    }
 }
 
 fn map_id(random: &mut Random, i: u64) -> u64 {

@@ -23,6 +23,13 @@ pub enum Call {
     List,
 }
 
+impl Call {
+    /// Its word in a question.
+    pub fn name(self) -> String {
+        format!("{self:?}").to_lowercase()
+    }
+}
+
 #[derive(Clone, Copy, Debug, PartialEq, Eq)]
 pub struct MapArgs {
     pub id: u64,

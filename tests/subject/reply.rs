@@ -13,6 +13,7 @@ use crate::model::refusal::{Outcome, Refusal};
 use crate::model::walk::{State, Step};
 use crate::vectors::bytes_word;
 
+/// `Odd` is what 01 gives in no case, as it came.
 #[derive(Clone, Debug, PartialEq, Eq)]
 pub enum Answer {
     Chunk { id: u64, block: u64, version: u64 },
@@ -25,6 +26,7 @@ pub enum Answer {
     Report(Report),
     Text(String),
     Refused(Refusal),
+    Odd(String),
 }
 
 /// The answer, and what the call wrote: a copy's whole area, a walk's state.
@@ -122,6 +124,7 @@ impl fmt::Display for Answer {
             Answer::Report(r) => write!(f, "report {} {} {}", r.entries, r.pages, r.depth),
             Answer::Text(text) => write!(f, "text {}", text.trim_end().replace('\n', " | ")),
             Answer::Refused(refusal) => write!(f, "refused {}", refusal.0),
+            Answer::Odd(raw) => write!(f, "odd {raw}"),
         }
     }
 }
