@@ -1,8 +1,9 @@
 # `make test` is the gate; `make list` proves and runs the listing on a sample store.
 #
 #   make lib          proves the library and writes its archive
+#   make mvstore      builds the command of cli/
 #   make plotter      builds the example of examples/
-#   make install      header, archive and pkg-config file, to $(DESTDIR)$(PREFIX)
+#   make install      header, archive, pkg-config file, command and man pages, to $(DESTDIR)$(PREFIX)
 #   make bench        times the library
 #
 # LIB=FILE takes an archive that is already made, and LDLIBS what it needs; then nothing is proved.
@@ -14,7 +15,7 @@ CFLAGS = -O2
 WARNINGS = -std=c11 -Wall -Wextra -Wpedantic
 INSTALL = install
 
-.PHONY: list test lib plotter install bench target/staticlib/libmvstore.a
+.PHONY: list test lib mvstore plotter install bench target/staticlib/libmvstore.a
 
 # The sample is a store that H2 wrote.
 list:
@@ -30,19 +31,30 @@ lib: target/staticlib/libmvstore.a
 target/staticlib/libmvstore.a:
 	rt staticlib mvstore
 
+mvstore: target/mvstore
+
+target/mvstore: $(wildcard cli/*.c cli/*.h) include/mvstore.h $(LIB)
+	mkdir -p target
+	$(CC) $(WARNINGS) $(CFLAGS) -Iinclude -o $@ $(wildcard cli/*.c) $(LIB) $(LDLIBS)
+
 plotter: target/plotter
 
 target/plotter: examples/plotter.c include/mvstore.h $(LIB)
 	mkdir -p target
 	$(CC) $(WARNINGS) $(CFLAGS) -Iinclude -o $@ examples/plotter.c $(LIB) $(LDLIBS)
 
-install: $(LIB)
-	$(INSTALL) -d $(DESTDIR)$(PREFIX)/include $(DESTDIR)$(PREFIX)/lib/pkgconfig
+install: $(LIB) target/mvstore
+	$(INSTALL) -d $(DESTDIR)$(PREFIX)/include $(DESTDIR)$(PREFIX)/lib/pkgconfig \
+		$(DESTDIR)$(PREFIX)/bin $(DESTDIR)$(PREFIX)/share/man/man1 \
+		$(DESTDIR)$(PREFIX)/share/man/man3
 	$(INSTALL) -m 644 include/mvstore.h $(DESTDIR)$(PREFIX)/include/mvstore.h
 	$(INSTALL) -m 644 $(LIB) $(DESTDIR)$(PREFIX)/lib/libmvstore.a
 	sed -e 's|@PREFIX@|$(PREFIX)|' -e 's|@VERSION@|$(VERSION)|' mvstore.pc.in \
 		> $(DESTDIR)$(PREFIX)/lib/pkgconfig/mvstore.pc
 	chmod 644 $(DESTDIR)$(PREFIX)/lib/pkgconfig/mvstore.pc
+	$(INSTALL) -m 755 target/mvstore $(DESTDIR)$(PREFIX)/bin/mvstore
+	$(INSTALL) -m 644 man/mvstore.1 $(DESTDIR)$(PREFIX)/share/man/man1/mvstore.1
+	$(INSTALL) -m 644 man/mvstore.3 $(DESTDIR)$(PREFIX)/share/man/man3/mvstore.3
 
 bench:
 	tests/run --bench $(PLAIN) $(STORES)

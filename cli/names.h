@@ -1,0 +1,19 @@
+/* names.h - the names of a file's maps, from its metadata. */
+#ifndef NAMES_H
+#define NAMES_H
+
+#include <stddef.h>
+#include <stdint.h>
+
+#include "image.h"
+
+typedef struct map_name {
+    const uint8_t *at;
+    size_t len;
+} map_name;
+
+/* Calls `each` for every name, in the order of the metadata; gives the exit status: 1 if `each`
+ * gave 1 or if the metadata is refused, which is said on stderr. */
+int names_each(image file, int (*each)(image file, map_name name));
+
+#endif
