@@ -68,7 +68,7 @@ pub struct Report {
 
 type Bytes = *const u8;
 
-// What the archive lacks may be declared here, and must not be called.
+// As include/mvstore.h declares them.
 extern "C" {
     pub fn mvstore_map(image: Bytes, image_len: usize, name: Bytes, name_len: usize) -> Id;
     pub fn mvstore_lookup(
