@@ -10,7 +10,7 @@
 use Prim.Native.Nat.{ℕ, _<_, _≤_}
 use mathlib.Core.Path.{_≡_}
 use mathlib.Core.Bool.{true}
-use mathlib.Core.Option.{none, some}
+use mathlib.Core.Option.{Option, none, some}
 use mathlib.Core.List.{List, List·Memᴰ}
 use lib.ListN.{length, getElem?}
 use Rattle.refusal.specs.Refusal.{ok, refuse, badIndex}
@@ -48,7 +48,9 @@ module _ {image : List ℕ} {map kind : ℕ} (m : Map image map kind) where
   SoundMap = Sound compareKeys (reader image (m .newest) (m .id) (m .keys)) (m .root)
 
   pub record Answers : Type 0 where
-    -- "looking up any well-formed key never refuses, gives the entry's value by place and length if the entry list has the key"
+    -- "looking up any well-formed key never refuses,"
+    pub answered : (key : List ℕ) → wellFormed (m .keys) key ≡ true → (o : Option Entry) × (lookupOf image map kind key ≡ ok o)
+    -- "gives the entry's value by place and length if the entry list has the key"
     pub present : (key : List ℕ) → wellFormed (m .keys) key ≡ true → (e : Entry) → List·Memᴰ (keyOf (m .keys) key, e) entryList
         → lookupOf image map kind key ≡ ok (some e)
     -- "and Absent if not"

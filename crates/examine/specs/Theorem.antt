@@ -70,6 +70,7 @@ module _ {image : List ℕ} {map kind : ℕ} (m : Map image map kind) where
   passed-map p =
       let a = passed-answers key-order read (m .root) (passes-map p) in
       record {
+        answered = λ key w. let o = a .answered (keyOf (m .keys) key) in (o .0, lookup-map key w ∙ o .1);
         present = λ key w e i. lookup-map key w ∙ a .present (keyOf (m .keys) key) e i;
         absent = λ key w n. lookup-map key w ∙ a .absent (keyOf (m .keys) key) n;
         indexed = λ i h. let e = a .indexed i h in (e .0, e .1, index-map i ∙ e .2);

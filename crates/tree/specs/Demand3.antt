@@ -4,7 +4,7 @@
 --   Answers cmp read root   lookup of any key, every index and the count agree with the entry list
 use Prim.Native.Nat.{ℕ, _<_, _≤_}
 use mathlib.Core.Path.{_≡_}
-use mathlib.Core.Option.{none, some}
+use mathlib.Core.Option.{Option, none, some}
 use mathlib.Core.List.{List·Memᴰ}
 use lib.ListN.{length, getElem?}
 use Rattle.refusal.specs.Refusal.{Outcome, ok, refuse, badIndex}
@@ -18,6 +18,7 @@ module _ {K W : Type 0} (cmp : K → K → Order) (read : ℕ → Outcome (Page 
   Passes = (a : Report) × (mapExamine cmp read root ≡ ok a)
 
   pub record Answers : Type 0 where
+    pub answered : (k : K) → (o : Option W) × (mapLookup cmp read k root ≡ ok o)
     pub present : (k : K) (w : W) → List·Memᴰ (k, w) (mapEntries read root) → mapLookup cmp read k root ≡ ok (some w)
     pub absent : (k : K) → ((w : W) → List·Memᴰ (k, w) (mapEntries read root) → ⊥) → mapLookup cmp read k root ≡ ok none
     pub indexed : (i : ℕ) → i < length (mapEntries read root)

@@ -71,6 +71,7 @@ module _ {K W : Type 0} {cmp : K → K → Order} (L : TotalOrder K cmp) (read :
       let m = sound-meets cmp read root s in
       let es = mapEntries read root in
       record {
+        answered = λ k. (assoc cmp k es, map-lookup root m k);
         present = λ k w i. map-lookup root m k ∙ ap ok (assoc-present L k w i (s .rising));
         absent = λ k n. map-lookup root m k ∙ ap ok (assoc-absent L k es n);
         indexed = λ i h. let e = nth-element i es h in (e .0, e .1, map-index root m i ∙ e .2);
