@@ -69,6 +69,11 @@ unfoldable pub asking : {A : Type 0} → Outcome (ℕ × Kind) → List ℕ → 
 asking m image ask = bind m (λ x. bind (openedStore image) (λ c. ask c (x .0) (x .1)))
 
 -- ## The calls
+-- "copy area smaller than the value"
+abbrev pub fitting : ℕ → Option Entry → Outcome (Option Entry)
+fitting room none = ok none
+fitting room (some e) = branch (leb (e .value .len) room) (ok (some e)) (refuse areaTooSmall)
+
 module _ (image : List ℕ) (map kind : ℕ) where
   unfoldable pub lookupOf : List ℕ → Outcome (Option Entry)
   lookupOf key = asking (bind (askedMap map kind) (keyed key)) image (λ c id k. lookupIn image c id k (keyOf k key))
@@ -78,11 +83,6 @@ module _ (image : List ℕ) (map kind : ℕ) where
 
   unfoldable pub countOf : Outcome ℕ
   countOf = asking (askedMap map kind) image (λ c id k. countIn image c id k)
-
-  -- "copy area smaller than the value"
-  abbrev pub fitting : ℕ → Option Entry → Outcome (Option Entry)
-  fitting room none = ok none
-  fitting room (some e) = branch (leb (e .value .len) room) (ok (some e)) (refuse areaTooSmall)
 
   -- "Copy is a lookup that also writes the value."
   unfoldable pub copyOf : List ℕ → ℕ → Outcome (Option Entry)

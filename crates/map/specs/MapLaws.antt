@@ -254,7 +254,7 @@ module _ (image : List ℕ) (map kind : ℕ) (key : List ℕ) (room : ℕ) where
   NoValue value.Absent = Unit {0}
   NoValue (value.Refused r) = Unit {0}
 
-  copy-same : (o : Outcome (Option Entry)) → NoValue (valueOf o) → bind o (fitting image map kind room) ≡ o
+  copy-same : (o : Outcome (Option Entry)) → NoValue (valueOf o) → bind o (fitting room) ≡ o
   unfolding valueOf
   copy-same (refuse r) n = refl
   copy-same (ok none) n = refl
