@@ -1,4 +1,4 @@
-/* command.h - the four questions. Each prints the answer and gives the exit status. */
+/* command.h - the five questions. Each prints the answer and gives the exit status. */
 #ifndef COMMAND_H
 #define COMMAND_H
 
@@ -13,6 +13,7 @@ typedef struct asked {
     uint64_t kind;
 } asked;
 
+int command_info(image file);
 int command_maps(image file);
 int command_check_all(image file);
 int command_check(image file, asked m);

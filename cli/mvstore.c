@@ -12,7 +12,8 @@
 #define MISUSE 2
 
 static const char usage[] =
-    "usage: mvstore maps FILE\n"
+    "usage: mvstore info FILE\n"
+    "       mvstore maps FILE\n"
     "       mvstore check FILE [MAP KIND]\n"
     "       mvstore get FILE MAP KIND KEY\n"
     "       mvstore list FILE MAP KIND [--csv]\n"
@@ -22,6 +23,7 @@ static const char help[] =
     "\n"
     "Reads H2 MVStore files, format 1, and never writes them.\n"
     "\n"
+    "  info    the newest chunk: its id, version and blocks\n"
     "  maps    name, id and number of entries of every map\n"
     "  check   examines a map, or the metadata and every map\n"
     "  get     the value of a key, or 'absent'\n"
@@ -63,6 +65,12 @@ static int ask(image file, char **word, asked *m)
     mvstore_id id = mvstore_map(file.at, file.len, (const uint8_t *)word[0], strlen(word[0]));
     m->map = id.id;
     return id.refusal != 0 ? refusal_say(id.refusal) : 0;
+}
+
+static int info(image file, char **word, int words)
+{
+    (void)word;
+    return words == 0 ? command_info(file) : misuse();
 }
 
 static int maps(image file, char **word, int words)
@@ -109,7 +117,7 @@ static int list(image file, char **word, int words)
 static const struct {
     const char *name;
     int (*run)(image file, char **word, int words);
-} commands[] = {{"maps", maps}, {"check", check}, {"get", get}, {"list", list}};
+} commands[] = {{"info", info}, {"maps", maps}, {"check", check}, {"get", get}, {"list", list}};
 
 static int run(int argc, char **argv)
 {

@@ -91,6 +91,16 @@ extern "C" {
 /* The copy area is smaller than the value. */
 #define MVSTORE_AREA_TOO_SMALL 16
 
+/* The newest chunk: its id and version, its first block and how many blocks of
+ * 4,096 bytes it has. */
+typedef struct mvstore_chunk {
+    uint32_t refusal;
+    uint32_t chunk;
+    uint32_t block;
+    uint32_t blocks;
+    uint64_t version;
+} mvstore_chunk;
+
 /* A value. `found` is 1 for a value, which may be empty, and 0 where the map
  * has no such key (Absent): three different things, with a refusal. */
 typedef struct mvstore_value {
@@ -154,6 +164,10 @@ typedef struct mvstore_report {
     uint64_t entries;
     uint64_t pages;
 } mvstore_report;
+
+/* mvstore_newest: the chunk that the image opens at. Every other call opens the
+ * image in the same way. Refuses with 2 to 4. */
+mvstore_chunk mvstore_newest(const uint8_t *image, size_t image_len);
 
 /* mvstore_map: the id of the map with this name.
  * Refuses with 1 to 11, 13 and 14. */

@@ -2,6 +2,8 @@
 use Prim.Native.Nat.{ℕ}
 use lib.IntN.{pos}
 use Rattle.refusal.specs.Refusal.{Outcome, ok, refuse}
+use Rattle.opening.specs.declared.Opened.{Opened}
+use Rattle.opening.specs.declared.Opened.the-variants as opened
 use Rattle.store.specs.declared.Value.{Value as Found}
 use Rattle.store.specs.declared.Value.the-variants as found
 use Rattle.store.specs.declared.Counted.{Counted}
@@ -14,12 +16,18 @@ use Rattle.walk.specs.declared.Next.the-variants as next
 use Rattle.walk.specs.declared.Step.{Step as Stepped}
 use Rattle.map.specs.declared.entry.Item.{Item}
 use Rattle.map.specs.declared.entry.Item.the-variants as item
+use Rattle.mvstore.specs.declared.Newest.{Newest}
 use Rattle.mvstore.specs.declared.Value.{Value}
 use Rattle.mvstore.specs.declared.Entry.{Entry}
 use Rattle.mvstore.specs.declared.Count.{Count}
 use Rattle.mvstore.specs.declared.Id.{Id}
 use Rattle.mvstore.specs.declared.Step.{Step}
 use Rattle.mvstore.specs.declared.Report.{Report}
+
+-- opening
+unfoldable pub newestOut : Opened → Newest
+newestOut (opened.Newest c) = record { refusal = 0; chunk = c .id; block = c .block; blocks = c .len; version = c .version }
+newestOut (opened.Refused r) = record { refusal = r .number; chunk = 0; block = 0; blocks = 0; version = 0 }
 
 -- lookup and copy: Absent is neither a refusal nor a value of length 0
 unfoldable pub valueOut : Found → Value

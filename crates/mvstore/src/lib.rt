@@ -2,19 +2,31 @@
 // first, 0 where there is an answer; everything else is 0 where document 01 says so. include/mvstore.h
 // declares it.
 use map::Item;
+use opening::Opened;
 use store::Counted;
 use store::Examined;
 use store::Walk;
 use walk::Next;
 ghost use mathlib.Core.Path.{_≡_};
 ghost use lib.ListN.{length};
+ghost use Rattle.opening.specs.Opening.{opened};
 ghost use Rattle.store.specs.Store.{idSaid};
 ghost use Rattle.store.specs.Asking.{valueOf, countedOf};
 ghost use Rattle.store.specs.Examining.{examinedOf};
 ghost use Rattle.walk.specs.Stepping.{stepOf};
 ghost use Rattle.examine.specs.Examine.{examineOf};
 ghost use Rattle.map.specs.Map.{lookupOf, indexOf, countOf, copyOf, namedOf, itemOf, areaAfter};
-ghost use Rattle.mvstore.specs.Exports.{valueOut, entryOut, countOut, idOut, stopOut, stepOut, reportOut};
+ghost use Rattle.mvstore.specs.Exports.{newestOut, valueOut, entryOut, countOut, idOut, stopOut, stepOut, reportOut};
+
+// What opening answers: the newest chunk, its first block and how many it has, and its version.
+#[repr(C)]
+pub struct Newest {
+    pub refusal: u32,
+    pub chunk: u32,
+    pub block: u32,
+    pub blocks: u32,
+    pub version: u64,
+}
 
 // What lookup and copy answer: `found` is 1 for a value and 0 for Absent.
 #[repr(C)]
@@ -68,6 +80,27 @@ pub struct Report {
     pub depth: u32,
     pub entries: u64,
     pub pages: u64,
+}
+
+fn newest_out(o: Opened) -> Newest
+    ensures { λ r. ⌜ r ≡ newestOut o ⌝ }
+{
+    match o {
+        Opened::Newest(c) => Newest {
+            refusal: 0,
+            chunk: c.id,
+            block: c.block,
+            blocks: c.len,
+            version: c.version,
+        },
+        Opened::Refused(r) => Newest {
+            refusal: r.number as u32,
+            chunk: 0,
+            block: 0,
+            blocks: 0,
+            version: 0,
+        },
+    }
 }
 
 fn value_out(v: store::Value) -> Value
@@ -220,6 +253,13 @@ fn report_out(e: Examined) -> Report
             pages: 0,
         },
     }
+}
+
+#[no_mangle]
+pub extern "C" fn mvstore_newest(image: &[u8]) -> Newest
+    ensures { λ r. ⌜ r ≡ newestOut (opened (now (image .entry))) ⌝ }
+{
+    newest_out(opening::open(image))
 }
 
 #[no_mangle]
