@@ -9,7 +9,8 @@ use std::process::{exit, Command};
 const ARCHIVE: &str = "../target/staticlib/libmvstore.a";
 
 /// What include/mvstore.h declares; an archive without one of them is another library's.
-const CALLS: [&str; 7] = [
+const CALLS: [&str; 8] = [
+    "mvstore_newest",
     "mvstore_map",
     "mvstore_lookup",
     "mvstore_index",

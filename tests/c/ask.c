@@ -34,6 +34,17 @@ static lent sealed(const void *bytes, size_t len)
     return l;
 }
 
+mvstore_chunk ask_newest(lent image)
+{
+    mvstore_chunk c = mvstore_newest(image.bytes, image.len);
+    int refused = c.refusal >= MVSTORE_BAD_IMAGE_SIZE && c.refusal <= MVSTORE_NO_START;
+    CHECK(c.refusal == 0 || refused);
+    CHECK(!refused || (c.chunk == 0 && c.block == 0 && c.blocks == 0 && c.version == 0));
+    CHECK(refused || (c.chunk < 1 << 26 && c.block >= 2 && c.blocks >= 1));
+    CHECK(refused || (uint64_t)c.block + c.blocks <= image.len / 4096);
+    return c;
+}
+
 mvstore_id ask_map(lent image, const void *name, size_t len)
 {
     lent n = sealed(name, len);

@@ -15,6 +15,7 @@ typedef struct asked_map {
     uint64_t kind;
 } asked_map;
 
+mvstore_chunk ask_newest(lent image);
 mvstore_id ask_map(lent image, const void *name, size_t len);
 mvstore_value ask_lookup(lent image, asked_map m, const void *key, size_t len);
 mvstore_value ask_copy(lent image, asked_map m, const void *key, size_t len, size_t room);

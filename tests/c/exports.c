@@ -261,6 +261,7 @@ static void check_store(const char *store, const char *dumped)
     dump d = dump_read(dumped);
     lent_seal(&image);
     check_about(store);
+    images_check_newest(image, &d);
     contents_check(image, &d);
     walks_check(image, &d);
     dump_free(&d);

@@ -43,6 +43,11 @@ static void ask_nothing(const question *q)
     sink = q->map;
 }
 
+static void ask_newest(const question *q)
+{
+    sink = mvstore_newest(q->image.bytes, q->image.len).version;
+}
+
 static void ask_lookup(const question *q)
 {
     sink = mvstore_lookup(q->image.bytes, q->image.len, q->map, q->kind, q->key, q->len).at;
@@ -164,9 +169,9 @@ static int report(const list *l, size_t limit)
         const char *name;
         void (*ask)(const question *q);
     } exports[] = {
-        {"nothing", ask_nothing}, {"lookup", ask_lookup}, {"copy", ask_copy},
-        {"index", ask_index},     {"count", ask_count},   {"map", ask_map},
-        {"next", ask_next},       {"examine", ask_examine},
+        {"nothing", ask_nothing}, {"newest", ask_newest}, {"lookup", ask_lookup},
+        {"copy", ask_copy},       {"index", ask_index},   {"count", ask_count},
+        {"map", ask_map},         {"next", ask_next},     {"examine", ask_examine},
     };
     int above = 0;
     printf("stack: %zu questions", l->count);

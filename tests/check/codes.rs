@@ -37,7 +37,7 @@ fn claim_length(judge: &mut Judge, code: u64, length: u64, good: bool) {
     let position = plan.position(leaf);
     plan.chunks[0].header.set("root", position);
     let image = plan.image();
-    judge.image(&format!("code {code}, length {length}"));
+    judge.image(&format!("code {code}, length {length}"), &image);
     let due = if good { format!("report {entries} 1 1") } else { "refused 7".to_string() };
     let reply = judge.ask(&image, &examine()).to_string();
     judge.claim(reply == due, || format!("code {code}, length {length}: {reply}, due {due}"));

@@ -9,7 +9,7 @@ pub fn check(judge: &mut Judge) {
     for chunks in [7, 8, 9] {
         for (name, path) in [("level", Path::Level), ("rising", Path::Rising)] {
             let image = hostile(chunks, path);
-            judge.image(&format!("hostile, {chunks} chunks, {name}"));
+            judge.image(&format!("hostile, {chunks} chunks, {name}"), &image);
             questions(chunks).iter().for_each(|question| {
                 judge.ask(&image, question);
             });

@@ -15,7 +15,7 @@ pub fn check(judge: &mut Judge) {
     for (length, due) in refused.into_iter().chain(listed) {
         let mut image = store.clone();
         image.resize(length, 0);
-        judge.image(&format!("the standard store, {length} bytes"));
+        judge.image(&format!("the standard store, {length} bytes"), &image);
         let reply = judge.ask(&image, &Question::List);
         let same = reply.answer == Answer::Text(due.to_string());
         judge.claim(same, || format!("the standard store, {length} bytes: {reply}"));

@@ -20,7 +20,7 @@ pub fn check(judge: &mut Judge) {
     let keys: Vec<i64> = (1..CHUNKS as i64).collect();
     let (plan, leaves) = many(&keys);
     let image = plan.image();
-    judge.image("many chunks");
+    judge.image("many chunks", &image);
     let entries = numbered(&keys);
     sweep(judge, &image, &Expected { map: FORCES, entries: &entries }, "many chunks");
     for late in [LATE - 2, LATE - 1, LATE, CHUNKS - 2] {
@@ -57,7 +57,8 @@ fn many(keys: &[i64]) -> (Plan, Vec<Placed>) {
 fn wrong_check_value(judge: &mut Judge, mut plan: Plan, leaf: &Placed) {
     plan.page(leaf.page).check_xor = 1;
     let what = format!("many chunks, a fault in number {}", leaf.page.chunk);
-    judge.image(&what);
-    let examined = judge.ask(&plan.image(), &examine());
+    let image = plan.image();
+    judge.image(&what, &image);
+    let examined = judge.ask(&image, &examine());
     judge.claim(examined.refusal() == Some(8), || format!("{what}: {examined}"));
 }

@@ -38,8 +38,7 @@ pub fn check(judge: &mut Judge, maps: &mut Maps, seed: u64, number: u64) {
     let store = store(&mut random);
     let (image, damaged) = damaged_image(&mut random, &store);
     let what = format!("seed {seed} image {number}");
-    judge.image(&what);
-    judge.ask(&image, &Question::Open);
+    judge.image(&what, &image);
     judge.ask(&image, &Question::List);
     for known in &store.maps {
         judge.ask(&image, &Question::Find { name: known.name.clone().into_bytes() });

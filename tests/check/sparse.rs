@@ -56,9 +56,8 @@ fn far_chunks(judge: &mut Judge, named: bool) -> io::Result<()> {
     let root = FORCES_PLAN.inner(&mut plan, newest, &leaves).page;
     add_metadata(&mut plan, newest, root);
     let image = mapped(&plan)?;
-    judge.image("far chunks");
-    let opened = judge.ask(&image, &open()).to_string();
-    let due = format!("chunk 6 block {} version 6", MOST_BLOCKS - 1);
+    let opened = judge.image("far chunks", &image).to_string();
+    let due = format!("chunk 6 block {} blocks 1 version 6", MOST_BLOCKS - 1);
     judge.claim(opened == due, || format!("far chunks: {opened}"));
     let entries = numbered(&keys.concat());
     sweep(judge, &image, &Expected { map: FORCES, entries: &entries }, "far chunks");
@@ -81,7 +80,7 @@ fn add_metadata(plan: &mut Plan, newest: usize, root: PageRef) {
 /// One block too many is refused with 2; a part block more is not.
 fn too_many_blocks(judge: &mut Judge) -> io::Result<()> {
     let image = Mapped::new((MOST_BLOCKS + 1) * BLOCK)?;
-    judge.image("too many blocks");
+    judge.image("too many blocks", &image);
     for (length, number) in [(image.len(), 2), (image.len() - 1, 3)] {
         for question in every_call().into_iter().chain([open()]) {
             let reply = judge.ask(&image[..length], &question);
@@ -131,8 +130,8 @@ fn long_chunk_case(
         plan.chunks[0].pages.remove(0);
     }
     let image = mapped(&plan)?;
-    judge.image(what);
-    for question in [open(), count(), lookup(4), index(1), walk(&[]), copy(3, 30)] {
+    judge.image(what, &image);
+    for question in [count(), lookup(4), index(1), walk(&[]), copy(3, 30)] {
         judge.ask(&image, &question);
     }
     let examined = judge.ask(&image, &Question::Examine { map: FORCES }).to_string();

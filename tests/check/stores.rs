@@ -24,7 +24,7 @@ pub fn check(judge: &mut Judge, file: &Path, dump: &Path) -> io::Result<()> {
     let image = fs::read(file)?;
     let dump = fs::read_to_string(dump)?;
     let name = file.display().to_string();
-    judge.image(&name);
+    judge.image(&name, &image);
     let maps = dumped(&dump);
     judge.claim(!maps.is_empty(), || format!("{name}: the dump can't be read"));
     for map in &maps {

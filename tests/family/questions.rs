@@ -79,7 +79,7 @@ pub fn examine_of(map: MapArgs) -> Question {
     Question::Examine { map }
 }
 
-/// The seven calls, each once, about `forces`: what a fault in the metadata meets.
+/// The seven calls that read the metadata, each once, about `forces`: what a fault in it meets.
 pub fn every_call() -> Vec<Question> {
     [vec![find("forces"), count()], page_calls(0, 0, &[])].concat()
 }

@@ -162,7 +162,7 @@ impl Stored {
 
     /// Asks all its questions and holds the replies against the stored ones.
     pub fn check(&self, judge: &mut Judge) {
-        judge.image(&self.name);
+        judge.image(&self.name, &self.image);
         for (question, expected) in &self.asked {
             let Some(parsed) = Question::parse(question) else {
                 judge.claim(false, || format!("{}: no question: {question}", self.name));

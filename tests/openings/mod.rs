@@ -15,7 +15,7 @@ mod sparse;
 use std::fmt::Write;
 
 use crate::model::image::BLOCK;
-use crate::subject::{Question, Reply};
+use crate::subject::{Answer, Question, Reply};
 use crate::vectors::bytes_word;
 
 pub use images::images;
@@ -43,7 +43,13 @@ impl Named {
 
     /// The line that opening it gives.
     pub fn answer(&self) -> String {
-        format!("{} {}\n", self.name, opened(&self.image))
+        let said = match opened(&self.image).answer {
+            Answer::Chunk { id, block, version, .. } => {
+                format!("chunk {id} block {block} version {version}")
+            }
+            refused => refused.to_string(),
+        };
+        format!("{} {said}\n", self.name)
     }
 }
 

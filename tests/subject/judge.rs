@@ -24,10 +24,11 @@ impl Judge {
         self.subjects.push(Plugged { subject, questions: 0, refusals: Refusals::default() });
     }
 
-    /// From here on the questions are about another image.
-    pub fn image(&mut self, name: &str) {
+    /// From here on the questions are about another image; the first is what it opens to.
+    pub fn image(&mut self, name: &str, image: &[u8]) -> Reply {
         self.tally.images += 1;
         self.image = name.to_string();
+        self.ask(image, &Question::Open)
     }
 
     /// The model's reply, after each subject's was held against it.

@@ -16,7 +16,7 @@ use crate::vectors::bytes_word;
 /// `Odd` is what 01 gives in no case, as it came.
 #[derive(Clone, Debug, PartialEq, Eq)]
 pub enum Answer {
-    Chunk { id: u64, block: u64, version: u64 },
+    Chunk { id: u64, block: u64, blocks: u64, version: u64 },
     Id(u64),
     Absent,
     Value(Span),
@@ -44,6 +44,7 @@ impl Reply {
             Question::Open => given(ask::open(image), |chunk| Answer::Chunk {
                 id: chunk.id,
                 block: chunk.block,
+                blocks: chunk.len,
                 version: chunk.version,
             }),
             Question::Find { name } => given(ask::find(image, name), Answer::Id),
@@ -112,8 +113,8 @@ impl fmt::Display for Reply {
 impl fmt::Display for Answer {
     fn fmt(&self, f: &mut fmt::Formatter) -> fmt::Result {
         match self {
-            Answer::Chunk { id, block, version } => {
-                write!(f, "chunk {id} block {block} version {version}")
+            Answer::Chunk { id, block, blocks, version } => {
+                write!(f, "chunk {id} block {block} blocks {blocks} version {version}")
             }
             Answer::Id(id) => write!(f, "id {id}"),
             Answer::Absent => write!(f, "absent"),

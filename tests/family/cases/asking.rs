@@ -181,7 +181,7 @@ fn listings() -> Vec<Case> {
         let mut image = standard().plan.image();
         image.resize(bytes, 0);
         Case::new(name, "program input over 65,536 bytes", image)
-            .says(open(), "chunk 3 block 5 version 3")
+            .says(open(), "chunk 3 block 5 blocks 1 version 3")
     };
     let entries = "-5 24 | -1 24 | 0 0 | 7 0 | 9 24 | 100 24";
     let listed =

@@ -78,7 +78,8 @@ fn fletchers() -> Vec<Case> {
             }
             l.sum = Sum::Xor(0x1a2bd87b ^ 0x3044e6cc);
         }),
-        edited("header-odd-text", odd, &make_odd).says(open(), "chunk 3 block 5 version 3"),
+        edited("header-odd-text", odd, &make_odd)
+            .says(open(), "chunk 3 block 5 blocks 1 version 3"),
     ]
 }
 
@@ -140,7 +141,7 @@ fn lines() -> Vec<Case> {
 /// What looks odd and is good.
 fn accepted() -> Vec<Case> {
     let opens = |name, why, edit: &dyn Fn(&mut LinePlan)| {
-        edited(name, why, edit).says(open(), "chunk 3 block 5 version 3")
+        edited(name, why, edit).says(open(), "chunk 3 block 5 blocks 1 version 3")
     };
     vec![
         opens("header-name-of-16-letters", "1 to 16 ASCII letters", &|l| {

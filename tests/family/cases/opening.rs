@@ -8,9 +8,9 @@ use crate::family::questions::*;
 use crate::family::standard::{Standard, MIDDLE, NEWEST, OLD};
 use crate::model::image::BLOCK;
 
-const CHUNK_1: &str = "chunk 1 block 2 version 1";
-const CHUNK_2: &str = "chunk 2 block 3 version 2";
-const CHUNK_3: &str = "chunk 3 block 5 version 3";
+const CHUNK_1: &str = "chunk 1 block 2 blocks 1 version 1";
+const CHUNK_2: &str = "chunk 2 block 3 blocks 2 version 2";
+const CHUNK_3: &str = "chunk 3 block 5 blocks 1 version 3";
 
 pub fn cases() -> Vec<Case> {
     join(vec![
@@ -157,7 +157,7 @@ fn tied_starts() -> Vec<Case> {
             s.plan.chunks[MIDDLE].len = 4;
             s.plan.chunks[MIDDLE].header.set("len", 4);
         })
-        .says(open(), CHUNK_2),
+        .says(open(), "chunk 2 block 3 blocks 4 version 2"),
     ]
 }
 

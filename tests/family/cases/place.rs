@@ -36,7 +36,7 @@ fn newlines() -> Vec<Case> {
     let area = "a chunk header's first 1,024 bytes";
     vec![
         Case::new("chunk-header-newline-at-1023", area, tiny_with(1023, 1).image())
-            .says(open(), "chunk 1 block 2 version 1")
+            .says(open(), "chunk 1 block 2 blocks 1 version 1")
             .says(examine(), "report 2 1 1"),
         Case::new("chunk-header-newline-at-1024", area, tiny_with(1024, 1).image())
             .refuses(vec![open()], 4),
@@ -156,7 +156,7 @@ fn wide_numbers() -> Vec<Case> {
     vec![
         Case::new("page-past-64-kib", low, far.image()).says(examine(), "report 2 1 1"),
         Case::new("chunk-id-past-16-bits", low, high.image())
-            .says(open(), "chunk 74565 block 2 version 1")
+            .says(open(), "chunk 74565 block 2 blocks 1 version 1")
             .says(examine(), "report 2 1 1"),
     ]
 }

@@ -12,7 +12,7 @@ pub fn cases() -> Vec<Case> {
             s.add_tail();
             s.plan.name_chunk(OLD);
         })
-        .says(open(), "chunk 3 block 5 version 3")
+        .says(open(), "chunk 3 block 5 blocks 1 version 3")
         .says(examine(), "report 6 4 2"),
         Case::standard("reader-sends-an-equal-key-left", "a key equal to a separator", &|_| {})
             .says(lookup(0), "value 8469 0")
@@ -28,7 +28,7 @@ pub fn cases() -> Vec<Case> {
                 s.plan.name_chunk_in(1, MIDDLE);
             },
         )
-        .says(open(), "chunk 2 block 3 version 2"),
+        .says(open(), "chunk 2 block 3 blocks 2 version 2"),
         Case::standard("reader-compares-unsigned", "comparing number keys as unsigned", &|_| {})
             .says(lookup(-5), "value 8378 24")
             .says(lookup(-1), "value 8403 24")

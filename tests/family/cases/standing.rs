@@ -129,7 +129,7 @@ fn ends() -> Vec<Case> {
 }
 
 fn accepted() -> Vec<Case> {
-    let newest = "chunk 3 block 5 version 3";
+    let newest = "chunk 3 block 5 blocks 1 version 3";
     vec![
         edited("chunk-id-2-to-26-less-1", "chunk is below 2^26", &|s| {
             let chunk = &mut s.plan.chunks[NEWEST];
@@ -137,7 +137,7 @@ fn accepted() -> Vec<Case> {
             chunk.footer.set("chunk", (1 << 26) - 1);
             s.plan.name_chunk(NEWEST);
         })
-        .says(open(), "chunk 67108863 block 5 version 3"),
+        .says(open(), "chunk 67108863 block 5 blocks 1 version 3"),
         edited("footer-newline-ends-block", "a footer's 128 bytes", &|s| {
             footer(s).newline_from = 127;
         })

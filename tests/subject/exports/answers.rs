@@ -2,7 +2,7 @@
 //! absent value and a refusal have every other member 0, a key is a number or a place. What is none
 //! of these is an odd answer, which equals no other.
 
-use super::calls::{Count, Entry, Id, Report, Step, Value};
+use super::calls::{Chunk, Count, Entry, Id, Report, Step, Value};
 use crate::model::examine;
 use crate::model::image::Span;
 use crate::model::index::{self, GivenKey};
@@ -17,6 +17,15 @@ fn odd(raw: &dyn std::fmt::Debug) -> Answer {
 fn refused(number: u32, raw: &dyn std::fmt::Debug) -> Answer {
     match u8::try_from(number) {
         Ok(number) if (1..=LAST).contains(&number) => Answer::Refused(Refusal(number)),
+        _ => odd(raw),
+    }
+}
+
+pub fn of_chunk(raw: &Chunk) -> Answer {
+    let [id, block, blocks] = [raw.chunk, raw.block, raw.blocks].map(u64::from);
+    match (raw.refusal, id, block, blocks, raw.version) {
+        (0, .., version) => Answer::Chunk { id, block, blocks, version },
+        (refusal, 0, 0, 0, 0) => refused(refusal, raw),
         _ => odd(raw),
     }
 }

@@ -4,6 +4,16 @@ use std::ptr;
 
 #[repr(C)]
 #[derive(Clone, Copy, Debug)]
+pub struct Chunk {
+    pub refusal: u32,
+    pub chunk: u32,
+    pub block: u32,
+    pub blocks: u32,
+    pub version: u64,
+}
+
+#[repr(C)]
+#[derive(Clone, Copy, Debug)]
 pub struct Id {
     pub refusal: u32,
     pub id: u64,
@@ -70,6 +80,7 @@ type Bytes = *const u8;
 
 // As include/mvstore.h declares them.
 extern "C" {
+    pub fn mvstore_newest(image: Bytes, image_len: usize) -> Chunk;
     pub fn mvstore_map(image: Bytes, image_len: usize, name: Bytes, name_len: usize) -> Id;
     pub fn mvstore_lookup(
         image: Bytes,

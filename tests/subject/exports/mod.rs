@@ -20,11 +20,12 @@ impl Subject for Exports {
     }
 
     fn offers(&self, call: Call) -> bool {
-        !matches!(call, Call::Open | Call::List)
+        call != Call::List
     }
 
     fn reply(&mut self, image: &[u8], question: &Question) -> Option<Reply> {
         let answer = match question {
+            Question::Open => answers::of_chunk(&newest(image)),
             Question::Find { name } => answers::of_id(&map(image, name)),
             Question::Lookup { map, key } => answers::of_value(&lookup(image, *map, key)),
             Question::Index { map, at } => answers::of_entry(map.kind, &index(image, *map, *at)),
@@ -32,7 +33,7 @@ impl Subject for Exports {
             Question::Copy { map, key, area } => return Some(copied(image, *map, key, *area)),
             Question::Walk { map, state } => return walk::stepped(image, *map, state),
             Question::Examine { map } => answers::of_report(&examine(image, *map)),
-            Question::Open | Question::List => return None,
+            Question::List => return None,
         };
         Some(Reply { answer, area: None, state: None })
     }
@@ -40,6 +41,10 @@ impl Subject for Exports {
 
 // SAFETY, of each call: every pointer goes with the length of the slice it was taken from, or is
 // null with length 0; the slices live through the call, and only the area is lent to be written.
+
+pub fn newest(image: &[u8]) -> Chunk {
+    unsafe { mvstore_newest(lent(image), image.len()) }
+}
 
 pub fn map(image: &[u8], name: &[u8]) -> Id {
     unsafe { mvstore_map(lent(image), image.len(), lent(name), name.len()) }
