@@ -21,7 +21,7 @@ pub enum Kind {
 pub const TEXT_LIMIT: u64 = 1025;
 
 // A number key at `at`: 8 bytes.
-fn number_at(s: &[u8], at: usize) -> Sized
+pub fn number_at(s: &[u8], at: usize) -> Sized
     ensures { λ r. ⌜ r ≡ keyAt Kind.Number (now (s .entry)) at ⌝ }
 {
     if s.len() < 8 {
@@ -107,7 +107,8 @@ pub fn signed(bits: u64) -> i64
     !((18446744073709551615 - bits) as i64)
 }
 
-fn compare_numbers(a: u64, b: u64) -> Order
+// Two number keys by their 64 bits.
+pub fn compare_numbers(a: u64, b: u64) -> Order
     ensures { λ r. ⌜ r ≡ compareInt (toZ w64 a) (toZ w64 b) ⌝ }
 {
     let x = raise(a);

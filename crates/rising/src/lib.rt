@@ -7,7 +7,7 @@ ghost use mathlib.Core.Path.{_≡_};
 ghost use mathlib.Core.Bool.{_&&_};
 ghost use mathlib.Core.Option.{none};
 ghost use lib.ListN.{take};
-ghost use Rattle.order.specs.Order.{below};
+ghost use Rattle.order.specs.Order.{isLess, below};
 ghost use Rattle.key.specs.Key.{compareKeys};
 ghost use Rattle.tree.specs.Examination.{aboveBound, fromBound, belowBound};
 ghost use Rattle.tree.specs.Rising.{rises, lastBelow, keysTest, separatorsTest};
@@ -29,20 +29,34 @@ pub enum Rise {
     Falls,
 }
 
-// Whether the key at one place is below the key at another.
-fn key_below(image: &[u8], kind: Kind, at: usize, len: usize, other: usize, size: usize) -> bool
-    ensures { λ r. ⌜ r ≡ below compareKeys (keyIn (now (image .entry)) kind (record { at = at; len = len })) (keyIn (now (image .entry)) kind (record { at = other; len = size })) ⌝ }
+fn is_less(o: Order) -> bool
+    ensures { λ r. ⌜ r ≡ isLess o ⌝ }
 {
-    let o = key::compare(
-        kind,
-        opening::area_at(image, at, len),
-        opening::area_at(image, other, size),
-    );
     match o {
         Order::Less => true,
         Order::Equal => false,
         Order::Greater => false,
     }
+}
+
+// Whether the key at one place is below the key at another.
+fn key_below(image: &[u8], kind: Kind, at: usize, len: usize, other: usize, size: usize) -> bool
+    ensures { λ r. ⌜ r ≡ below compareKeys (keyIn (now (image .entry)) kind (record { at = at; len = len })) (keyIn (now (image .entry)) kind (record { at = other; len = size })) ⌝ }
+{
+    is_less(key::compare(
+        kind,
+        opening::area_at(image, at, len),
+        opening::area_at(image, other, size),
+    ))
+}
+
+// The same of two number keys, by their words.
+fn number_below(image: &[u8], at: usize, other: usize) -> bool
+    ensures { λ r. ⌜ r ≡ below compareKeys (keyIn (now (image .entry)) Kind.Number (record { at = at; len = 8 })) (keyIn (now (image .entry)) Kind.Number (record { at = other; len = 8 })) ⌝ }
+{
+    let a = numeral::be64(opening::area_at(image, at, 8), 0);
+    let b = numeral::be64(opening::area_at(image, other, 8), 0);
+    is_less(key::compare_numbers(a, b))
 }
 
 // Whether the key at a place is above the bound.
@@ -89,8 +103,52 @@ fn below_bound(image: &[u8], kind: Kind, b: Bound, at: usize, len: usize) -> boo
     }
 }
 
-// Whether `n` keys from `keys` on rise strictly, and the last of them.
-fn rise_from(image: &[u8], kind: Kind, n: u32, keys: usize, end: usize) -> Rise
+// Whether the number key at a place is above the bound.
+fn number_above(image: &[u8], b: Bound, at: usize, len: usize) -> bool
+    ensures { λ r. ⌜ r ≡ aboveBound compareKeys (boundKey (now (image .entry)) Kind.Number b) (keyIn (now (image .entry)) Kind.Number (record { at = at; len = len })) ⌝ }
+{
+    if len != 8 {
+        return above_bound(image, Kind::Number, b, at, len);
+    }
+    match b {
+        Bound::Open => true,
+        Bound::Key {
+            at: other,
+            len: size,
+        } => {
+            if size != 8 {
+                return key_below(image, Kind::Number, other, size, at, len);
+            }
+            number_below(image, other, at)
+        }
+    }
+}
+
+// Whether `n` number keys from `keys` on rise strictly, and the last of them.
+fn numbers_rise(image: &[u8], n: u32, keys: usize, end: usize) -> Rise
+    ensures { λ r. ⌜ r ≡ riseOf (now (image .entry)) Kind.Number Bound.Open (upTo (items (take end (now (image .entry))) (keyForm Kind.Number)) n keys) ⌝ }
+{
+    let s = page::cut(image, end);
+    let mut left = n;
+    let mut i = keys;
+    let mut b = Bound::Open;
+    while 0 < left {
+        let it = key::number_at(s, i);
+        let Sized::At { at, len, next } = it else {
+            return Rise::Ends(b);
+        };
+        if number_above(image, b, at, len) {} else {
+            return Rise::Falls;
+        }
+        b = Bound::Key { at, len };
+        i = next;
+        left -= 1;
+    }
+    Rise::Ends(b)
+}
+
+// The same of keys of either kind, one by one.
+fn rise_each(image: &[u8], kind: Kind, n: u32, keys: usize, end: usize) -> Rise
     ensures { λ r. ⌜ r ≡ riseOf (now (image .entry)) kind Bound.Open (upTo (items (take end (now (image .entry))) (keyForm kind)) n keys) ⌝ }
 {
     let s = page::cut(image, end);
@@ -111,6 +169,16 @@ fn rise_from(image: &[u8], kind: Kind, n: u32, keys: usize, end: usize) -> Rise
         left -= 1;
     }
     Rise::Ends(b)
+}
+
+// Whether `n` keys from `keys` on rise strictly, and the last of them.
+fn rise_from(image: &[u8], kind: Kind, n: u32, keys: usize, end: usize) -> Rise
+    ensures { λ r. ⌜ r ≡ riseOf (now (image .entry)) kind Bound.Open (upTo (items (take end (now (image .entry))) (keyForm kind)) n keys) ⌝ }
+{
+    match kind {
+        Kind::Number => numbers_rise(image, n, keys, end),
+        Kind::Text => rise_each(image, kind, n, keys, end),
+    }
 }
 
 // Whether the keys rise strictly and the last of them is below the bound.
