@@ -2,6 +2,7 @@ pub mod Line
 pub mod Field
 pub mod Fields
 pub mod Reading
+pub mod Names
 pub mod LineLaws
 pub mod FieldLaws
 pub mod FieldAtLaws
@@ -10,4 +11,9 @@ pub mod SlotLaws
 pub mod ReadingLaws
 pub mod FillLaws
 pub mod FinishLaws
+pub mod NameAtLaws
+pub mod SeekLaws
+pub mod NamesLaws
+pub mod BrokenLaws
+pub mod JudgeLaws
 pub mod SumLaws

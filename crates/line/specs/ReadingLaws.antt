@@ -14,7 +14,7 @@ use Rattle.line.specs.FieldLaws.{Placed, parts-more, parts-none, parts-f
 use Rattle.line.specs.FieldAtLaws.{letters-part, letters-rest}
 
 -- ## Whether a name comes later
-parts-placed : {line : List ℕ} {i colon value end : ℕ} → Placed line i colon value end →
+pub parts-placed : {line : List ℕ} {i colon value end : ℕ} → Placed line i colon value end →
     split comma (drop i line) ≡ partFrom line i ∷ partsAfter line end
 parts-placed {line} {i} p = rw (p .whole) (parts-first line i)
 

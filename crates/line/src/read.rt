@@ -2,7 +2,10 @@
 use super::field::Part;
 use super::field::field_at;
 use super::field::letters_end;
+use super::names::Names;
+use super::names::check_names;
 ghost use mathlib.Core.Path.{_≡_};
+ghost use mathlib.Core.Bool.{true, false};
 ghost use Rattle.line.specs.Fields.{readOf, noFields};
 ghost use Rattle.line.specs.Reading.{slotOf, namedIn, seen, partsAfter};
 
@@ -109,9 +112,14 @@ fn named_later(line: &[u8], at: usize, name: &[u8]) -> bool
 }
 
 // Whether the name numbered `slot` is given already or, where it is not known, comes again after `end`.
-fn repeats(f: Fields, slot: usize, line: &[u8], end: usize, name: &[u8]) -> bool
+// Nothing is looked for where the names are known to be `apart`.
+fn repeats(f: Fields, slot: usize, apart: bool, line: &[u8], end: usize, name: &[u8]) -> bool
+    requires { ⌜ (apart ≡ true → seen f slot (now name) (partsAfter (now line) end) ≡ false) ⌝ }
     ensures { λ r. ⌜ r ≡ seen f slot (now (name .entry)) (partsAfter (now (line .entry)) end) ⌝ }
 {
+    if apart {
+        return false;
+    }
     if slot < Fields::NAMES {
         f.given[slot]
     } else {
@@ -119,8 +127,10 @@ fn repeats(f: Fields, slot: usize, line: &[u8], end: usize, name: &[u8]) -> bool
     }
 }
 
-// What `line` says.
-pub fn read_fields(line: &[u8]) -> Fields
+// What `line` says, field by field. Each unknown name is compared with all after it, unless the line
+// is known to be good.
+fn read_each(line: &[u8], apart: bool) -> Fields
+    requires { ⌜ (apart ≡ true → readOf (now line) .good ≡ true) ⌝ }
     ensures { λ r. ⌜ r ≡ readOf (now (line .entry)) ⌝ }
 {
     let mut fields = Fields {
@@ -136,7 +146,7 @@ pub fn read_fields(line: &[u8]) -> Fields
         };
         let name = &line[i..colon];
         let slot = slot_of(name);
-        if repeats(fields, slot, line, end, name) {
+        if repeats(fields, slot, apart, line, end, name) {
             return Fields::bad();
         }
         if slot < Fields::NAMES {
@@ -147,5 +157,23 @@ pub fn read_fields(line: &[u8]) -> Fields
             return fields;
         }
         i = end + 1;
+    }
+}
+
+// A line of so many bytes or fewer is read at once: it has few names, and a tree for them costs more.
+const SHORT: usize = 192;
+
+// What `line` says.
+pub fn read_fields(line: &[u8]) -> Fields
+    ensures { λ r. ⌜ r ≡ readOf (now (line .entry)) ⌝ }
+{
+    if line.len() <= SHORT {
+        return read_each(line, false);
+    }
+    let r = check_names(line);
+    match r {
+        Names::Right => read_each(line, true),
+        Names::Bad => Fields::bad(),
+        Names::Many => read_each(line, false),
     }
 }
