@@ -14,11 +14,12 @@ use Rattle.opening.specs.declared.Opened.{Opened}
 use Rattle.opening.specs.declared.Opened.the-variants as opened
 use Rattle.opening.specs.Opening.{opened}
 use Rattle.content.specs.Content.{Entry, keyIn}
-use Rattle.store.specs.declared.walking.Walk.{Walk}
-use Rattle.store.specs.declared.walking.Yield.the-variants as yields
-use Rattle.store.specs.declared.walking.Stepped.{Stepped}
+use Rattle.cursor.specs.declared.Walk.{Walk}
+use Rattle.cursor.specs.declared.Yield.the-variants as yields
+use Rattle.cursor.specs.declared.Stepped.{Stepped}
+use Rattle.cursor.specs.Walk.{fresh, closed, doneNumber, yieldOf, settled}
 use Rattle.store.specs.AskLaws.{entries-key}
-use Rattle.store.specs.Walk.{fresh, closed, doneNumber, yieldOf, settled, stepIn, Walks}
+use Rattle.store.specs.Walk.{stepIn, Walks}
 use Rattle.store.specs.WalkedLaws.{sound-walks}
 use Rattle.map.specs.Map.{openedBy, openedStore}
 use Rattle.walk.specs.declared.Step.{Step}

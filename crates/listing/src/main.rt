@@ -1,5 +1,7 @@
 // The listing: reads an image from standard input, examines map `forces`, kind 0, and lists it in
 // decimal; or prints only `refused N`. The image is opened once and walked once.
+use cursor::Walk;
+use cursor::Yield;
 use key::Kind;
 use opening::Chunk;
 use opening::Opened;
@@ -7,8 +9,6 @@ use refusal::Refusal;
 use store::Examined;
 use store::Id;
 use store::Report;
-use store::Walk;
-use store::Yield;
 
 // Input over this many bytes is refused.
 const MOST_BYTES: usize = 65536;

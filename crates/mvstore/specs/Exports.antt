@@ -10,7 +10,7 @@ use Rattle.store.specs.declared.Counted.{Counted}
 use Rattle.store.specs.declared.Counted.the-variants as counted
 use Rattle.store.specs.declared.Examined.{Examined}
 use Rattle.store.specs.declared.Examined.the-variants as examined
-use Rattle.store.specs.declared.walking.Walk.{Walk}
+use Rattle.cursor.specs.declared.Walk.{Walk}
 use Rattle.walk.specs.declared.Next.{Next}
 use Rattle.walk.specs.declared.Next.the-variants as next
 use Rattle.walk.specs.declared.Step.{Step as Stepped}

@@ -1,11 +1,11 @@
 // The C interface, thin: each export answers one small struct by value. The refusal's number comes
 // first, 0 where there is an answer; everything else is 0 where document 01 says so. include/mvstore.h
 // declares it.
+use cursor::Walk;
 use map::Item;
 use opening::Opened;
 use store::Counted;
 use store::Examined;
-use store::Walk;
 use walk::Next;
 ghost use mathlib.Core.Path.{_≡_};
 ghost use lib.ListN.{length};

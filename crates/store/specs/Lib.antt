@@ -2,7 +2,6 @@ pub mod Store
 pub mod Asking
 pub mod Examining
 pub mod Walk
-pub mod WalkSteps
 pub mod WalkWays
 pub mod Memory
 pub mod Steps
@@ -17,7 +16,7 @@ pub mod ReaderLaws
 pub mod ReadLaws
 pub mod AskLaws
 pub mod WalkReadLaws
-pub mod WalkStateLaws
+pub mod WalkStepLaws
 pub mod WalkedLaws
 pub mod ExamineLaws
 pub mod TallyLaws

@@ -10,7 +10,7 @@ use mathlib.Core.Path.{_≡_, refl, sym, _∙_, ap}
 use mathlib.Core.Bool.{Bool, true, false, cond}
 use mathlib.Core.Logic.{_⊎_, inl, inr, ⊎-elim}
 use mathlib.Core.List.{List, [], _∷_, _++_}
-use mathlib.Core.Option.{Option, none, some}
+use mathlib.Core.Option.{none, some}
 use native.Mathlib.Numerals.{add-one}
 use native.Mathlib.Omega.{arith}
 use lib.Dec.{eqb, ltb, leb}
@@ -30,50 +30,20 @@ use Rattle.tree.specs.WalkLaws.{at-refused, at-too-deep, at-no-entry, at-entry,
 use Rattle.opening.specs.declared.chunk.Chunk.{Chunk}
 use Rattle.page.specs.declared.Judged.{Judged}
 use Rattle.page.specs.declared.Judged.the-variants as judged
-use Rattle.content.specs.declared.Nth.the-variants as nth
-use Rattle.content.specs.Content.{Entry, entriesIn, positionsIn, countsIn, keysIn, nthOf, pageOf}
+use Rattle.content.specs.Content.{Entry, entriesIn, positionsIn, countsIn, keysIn, pageOf}
 use Rattle.content.specs.WholeLaws.{Whole}
-use Rattle.store.specs.declared.walking.Yield.the-variants as yields
-use Rattle.store.specs.declared.down.After.{After}
-use Rattle.store.specs.declared.down.After.the-variants as after
-use Rattle.store.specs.declared.down.Down.{Down}
-use Rattle.store.specs.declared.down.Down.the-variants as down
-use Rattle.store.specs.declared.down.Leftmost.the-variants as leftmost
+use Rattle.cursor.specs.declared.Yield.the-variants as yields
+use Rattle.cursor.specs.declared.follow.After.{After}
+use Rattle.cursor.specs.declared.follow.After.the-variants as after
+use Rattle.cursor.specs.declared.follow.Down.{Down}
+use Rattle.cursor.specs.declared.follow.Down.the-variants as down
+use Rattle.cursor.specs.declared.follow.Leftmost.the-variants as leftmost
+use Rattle.cursor.specs.Walk.{yieldOf}
+use Rattle.cursor.specs.Steps.{entryAfter, afterChild, afterOf, firstOf, overOf}
 use Rattle.store.specs.Store.{reader}
 use Rattle.store.specs.Asking.{judgedBy}
-use Rattle.store.specs.Walk.{yieldOf}
-use Rattle.store.specs.WalkSteps.{entryAfter, afterChild, afterOf, firstOf, overOf}
 use Rattle.store.specs.WalkWays.{CameLeft, CameDown}
 use Rattle.store.specs.ReadLaws.{reader-judged, judged-all}
-
--- ## An entry by its number, as the code reads it
-entry-after : (o : Option (Key × Entry)) {k z at len : ℕ} → nthOf o ≡ nth.Entry k z at len → after.Entry k z at len ≡ entryAfter o
-entry-after none e = absurd (let z : _≡_ {A = ℕ} 0 1 = cc in omega arith)
-entry-after (some x) e = cc
-
-over-after : (o : Option (Key × Entry)) → nthOf o ≡ nth.Out → after.Over ≡ entryAfter o
-over-after none e = refl
-over-after (some x) e = absurd (let z : _≡_ {A = ℕ} 0 1 = cc in omega arith)
-
-module _ (image : List ℕ) (kind : Kind) (n keys values e i : ℕ) (s : List ℕ) (c : s ≡ take e image) where
-  pub entry-there : {k z at len : ℕ} → nthOf (getElem? (entriesIn s kind n keys values) i) ≡ nth.Entry k z at len
-      → after.Entry k z at len ≡ entryAfter (getElem? (entriesIn (take e image) kind n keys values) i)
-  entry-there h = rw (← c) (entry-after (getElem? (entriesIn s kind n keys values) i) h)
-
-  pub entry-out : nthOf (getElem? (entriesIn s kind n keys values) i) ≡ nth.Out
-      → after.Over ≡ entryAfter (getElem? (entriesIn (take e image) kind n keys values) i)
-  entry-out h = rw (← c) (over-after (getElem? (entriesIn s kind n keys values) i) h)
-
-module _ (image : List ℕ) (kind : Kind) {j : Judged} {n keys values e : ℕ} (i : j ≡ judged.Leaf n keys values e)
-    (s : List ℕ) (c : s ≡ take e image) where
-  pub first-there : {k z at len : ℕ} → nthOf (getElem? (entriesIn s kind n keys values) 0) ≡ nth.Entry k z at len
-      → after.Entry k z at len ≡ firstOf image kind j
-  unfolding firstOf
-  first-there h = rw i (entry-there image kind n keys values e 0 s c h)
-
-  pub first-out : nthOf (getElem? (entriesIn s kind n keys values) 0) ≡ nth.Out → after.Over ≡ firstOf image kind j
-  unfolding firstOf
-  first-out h = rw i (entry-out image kind n keys values e 0 s c h)
 
 nth-cases : {A : Type 0} (l : List A) (i : ℕ)
     → ((e : A) × (getElem? l i ≡ some e) × (i < length l) × (getD l i e ≡ e)) ⊎ ((getElem? l i ≡ none) × (length l ≤ i))

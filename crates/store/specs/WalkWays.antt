@@ -12,13 +12,13 @@ use Rattle.tree.specs.Walk.{over, stop, mapNext}
 use Rattle.tree.specs.WalkLaws.{prefixed, raised, leftmostAt}
 use Rattle.opening.specs.declared.chunk.Chunk.{Chunk}
 use Rattle.content.specs.Content.{Entry}
-use Rattle.store.specs.declared.walking.Yield.the-variants as yields
-use Rattle.store.specs.declared.down.Down.{Down}
-use Rattle.store.specs.declared.down.Down.the-variants as down
-use Rattle.store.specs.declared.down.Leftmost.{Leftmost}
-use Rattle.store.specs.declared.down.Leftmost.the-variants as leftmost
+use Rattle.cursor.specs.declared.Yield.the-variants as yields
+use Rattle.cursor.specs.declared.follow.Down.{Down}
+use Rattle.cursor.specs.declared.follow.Down.the-variants as down
+use Rattle.cursor.specs.declared.follow.Leftmost.{Leftmost}
+use Rattle.cursor.specs.declared.follow.Leftmost.the-variants as leftmost
+use Rattle.cursor.specs.Walk.{yieldOf}
 use Rattle.store.specs.Store.{reader}
-use Rattle.store.specs.Walk.{yieldOf}
 
 module _ (image : List ℕ) (newest : Chunk) (map : ℕ) (kind : Kind) where
   -- whatever the numbers before are

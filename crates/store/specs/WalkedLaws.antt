@@ -16,9 +16,10 @@ use Rattle.tree.specs.Walk.{Moved, mapNext, Yields}
 use Rattle.tree.specs.WalkTheorem.{Fits, next-fits, sound-yields}
 use Rattle.opening.specs.declared.chunk.Chunk.{Chunk}
 use Rattle.content.specs.Content.{Entry}
-use Rattle.store.specs.declared.walking.Walk.{Walk}
+use Rattle.cursor.specs.declared.Walk.{Walk}
+use Rattle.cursor.specs.Walk.{zeros, fresh, formed, numbers, leading, settled, movedBy, movedIn}
 use Rattle.store.specs.Store.{reader, mapRoot}
-use Rattle.store.specs.Walk.{zeros, fresh, formed, numbers, leading, settled, movedBy, movedIn, stepIn, Walks}
+use Rattle.store.specs.Walk.{stepIn, Walks}
 
 zeros-replicate : (n : ℕ) → zeros (replicate n 0) ≡ true
 zeros-replicate zero = refl

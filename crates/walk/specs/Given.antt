@@ -5,12 +5,12 @@ use Rattle.key.specs.declared.Kind.{Kind}
 use Rattle.key.specs.Key.{Key}
 use Rattle.tree.specs.Walk.{Moved}
 use Rattle.content.specs.Content.{Entry, keyIn}
-use Rattle.store.specs.declared.walking.Walk.{Walk}
-use Rattle.store.specs.declared.walking.Yield.{Yield}
-use Rattle.store.specs.declared.walking.Yield.the-variants as yields
-use Rattle.store.specs.declared.walking.Stepped.{Stepped}
+use Rattle.cursor.specs.declared.Walk.{Walk}
+use Rattle.cursor.specs.declared.Yield.{Yield}
+use Rattle.cursor.specs.declared.Yield.the-variants as yields
+use Rattle.cursor.specs.declared.Stepped.{Stepped}
+use Rattle.cursor.specs.Walk.{numbers, movedBy, movedIn}
 use Rattle.store.specs.Store.{reader, mapRoot}
-use Rattle.store.specs.Walk.{numbers, movedBy, movedIn}
 use Rattle.map.specs.Map.{openedStore}
 use Rattle.walk.specs.declared.Next.{Next}
 use Rattle.walk.specs.declared.Next.the-variants as next

@@ -16,9 +16,9 @@ use Rattle.key.specs.Key.{Key, number, text}
 use Rattle.tree.specs.Page.{branch}
 use Rattle.tree.specs.Walk.{Moved, yield, over, stop}
 use Rattle.content.specs.Content.{Entry}
-use Rattle.store.specs.declared.walking.Walk.{Walk}
+use Rattle.cursor.specs.declared.Walk.{Walk}
+use Rattle.cursor.specs.Walk.{numbers, leading, closed, doneNumber, movedBy, movedIn}
 use Rattle.store.specs.Store.{reader, mapRoot}
-use Rattle.store.specs.Walk.{numbers, leading, closed, doneNumber, movedBy, movedIn}
 use Rattle.map.specs.Map.{askedMap, openedStore}
 use Rattle.walk.specs.declared.Next.{Next}
 use Rattle.walk.specs.declared.Next.the-variants as next

@@ -18,13 +18,14 @@ use Rattle.opening.specs.declared.Opened.the-variants as opened
 use Rattle.opening.specs.Opening.{opened}
 use Rattle.content.specs.Content.{Entry, keyIn}
 use Rattle.content.specs.InsideLaws.{EntryIn}
-use Rattle.store.specs.declared.walking.Walk.{Walk}
-use Rattle.store.specs.declared.walking.Yield.{Yield}
-use Rattle.store.specs.declared.walking.Yield.the-variants as yields
-use Rattle.store.specs.declared.walking.Stepped.{Stepped}
+use Rattle.cursor.specs.declared.Walk.{Walk}
+use Rattle.cursor.specs.declared.Yield.{Yield}
+use Rattle.cursor.specs.declared.Yield.the-variants as yields
+use Rattle.cursor.specs.declared.Stepped.{Stepped}
+use Rattle.cursor.specs.Walk.{numbers, closed, doneNumber, movedBy, movedIn, settled}
 use Rattle.store.specs.Store.{reader, mapRoot}
 use Rattle.store.specs.AskLaws.{next-in}
-use Rattle.store.specs.Walk.{numbers, closed, doneNumber, movedBy, movedIn, settled, stepIn}
+use Rattle.store.specs.Walk.{stepIn}
 use Rattle.map.specs.declared.entry.Item.{Item}
 use Rattle.map.specs.declared.entry.Item.the-variants as item
 use Rattle.map.specs.Map.{askedMap, openedStore, entryItem, itemAt}

@@ -1,13 +1,13 @@
 // The walk of a map, by its id and kind: entries from left to right, one a step, from a state that the
 // caller keeps. A recorded answer is given again before anything is judged.
+use cursor::Stepped;
+use cursor::Walk;
+use cursor::Yield;
 use key::Kind;
 use map::Item;
 use map::Target;
 use opening::Opened;
 use refusal::Refusal;
-use store::Stepped;
-use store::Walk;
-use store::Yield;
 ghost use mathlib.Core.Path.{_≡_};
 ghost use Rattle.text.specs.Text.{within};
 ghost use Rattle.tree.specs.Walk.{stop};

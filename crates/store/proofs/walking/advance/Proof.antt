@@ -1,6 +1,6 @@
 use denote.Ref.{now}
 use Rattle.store.specs.MemoryLaws.{empty-right}
-use Rattle.store.specs.WalkStateLaws.{step-no-root, step-from}
+use Rattle.store.specs.WalkStepLaws.{step-no-root, step-from}
 use borrow.Author.Needs.{needs}
 use Rattle.store.proofs.walking.advance.Statement.{statement}
 use Rattle.store.proofs.walking.advance.Tie as tie

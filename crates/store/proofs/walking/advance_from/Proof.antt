@@ -1,8 +1,9 @@
 use denote.Ref.{now}
 use mathlib.Core.Path.{sym, _∙_}
 use native.Mathlib.Omega.{arith}
-use Rattle.store.specs.WalkStateLaws.{formed-most, step-unformed, step-empty, step-first, step-no-map}
-use Rattle.store.specs.WalkStateLaws.{step-entry, step-on, step-done, step-refused, entry-low, left-low}
+use Rattle.cursor.specs.StateLaws.{formed-most}
+use Rattle.store.specs.WalkStepLaws.{step-unformed, step-empty, step-first, step-no-map}
+use Rattle.store.specs.WalkStepLaws.{step-entry, step-on, step-done, step-refused, left-low}
 use borrow.Author.Needs.{needs}
 use Rattle.store.proofs.walking.advance_from.Statement.{statement}
 use Rattle.store.proofs.walking.advance_from.Tie as tie
@@ -61,22 +62,6 @@ down-by-requires c κs =
     let if1 = c .before .before .before .before .before .if1 in
     (omega arith, formed-most (a .w) (sym (is-formed .ensures .0) ∙ if1 .taken), omega arith, pre)
 
-placed-requires : tie.Need-placed-requires
-placed-requires c κs =
-    let a = c .before .before .before .before .before .before .before .before .before .before .before .before .args in
-    let is-formed = c .before .before .before .before .before .before .before .before .before .before .is-formed in
-    let if1 = c .before .before .before .before .before .before .before .before .before .if1 in
-    let down-by = c .before .before .before .down-by in
-    let d = c .before .d in
-    let h = sym (is-formed .ensures .0) ∙ if1 .taken in
-    omega (
-      arith,
-      formed-most (a .w) h,
-      entry-low (now (a .image)) (a .newest) (a .map) (a .kind) (a .root) (a .w) h
-          (omega (arith, formed-most (a .w) h, is-formed .ensures .1 (if1 .taken))) (down-by .ensures .1)
-          (d .given .1),
-    )
-
 add-leftmost-from : tie.Need-add-leftmost-from
 add-leftmost-from c =
     let a = c .before .before .before .before .before .before .before .before .before .before .before .before .before .args in
@@ -109,22 +94,6 @@ leftmost-from-requires-2 c κs =
             (d2 .given .1),
       ),
       down-by .ensures .0,
-    )
-
-left-step-requires-2 : tie.Need-left-step-requires-2
-left-step-requires-2 c κs =
-    let a = c .before .before .before .before .before .before .before .before .before .before .before .before .before .before .args in
-    let is-formed = c .before .before .before .before .before .before .before .before .before .before .before .before .is-formed in
-    let if1 = c .before .before .before .before .before .before .before .before .before .before .before .if1 in
-    let down-by = c .before .before .before .before .before .down-by in
-    let d2 = c .before .before .before .d2 in
-    let h = sym (is-formed .ensures .0) ∙ if1 .taken in
-    omega (
-      arith,
-      formed-most (a .w) h,
-      left-low (now (a .image)) (a .newest) (a .map) (a .kind) (a .root) (a .w) h
-          (omega (arith, formed-most (a .w) h, is-formed .ensures .1 (if1 .taken))) (down-by .ensures .1)
-          (d2 .given .1),
     )
 
 returns-5 : tie.Need-returns-5
@@ -198,11 +167,11 @@ advance-from-spec =
     returns-4
     down-by-requires
     (λ c. search needs)
-    placed-requires
+    (λ c κs. search needs)
     (λ c. search needs)
     add-leftmost-from
     leftmost-from-requires-2
-    left-step-requires-2
+    (λ c κs. search needs)
     (λ c. search needs)
     (λ c κs. search needs)
     (λ c. search needs)

@@ -1,0 +1,4 @@
+pub mod Walk
+pub mod Steps
+pub mod StateLaws
+pub mod EntryLaws
