@@ -3,10 +3,11 @@
 use key::Kind;
 use map::Target;
 use opening::Opened;
-use store::Examined;
+use soundness::Examined;
 ghost use mathlib.Core.Path.{_≡_};
 ghost use Rattle.refusal.specs.Refusal.{ok};
-ghost use Rattle.store.specs.Examining.{examinedOf, examineIn};
+ghost use Rattle.soundness.specs.Examining.{examinedOf};
+ghost use Rattle.store.specs.Examining.{examineIn};
 ghost use Rattle.map.specs.Map.{asking};
 ghost use Rattle.examine.specs.Examine.{examineOf};
 

@@ -6,9 +6,9 @@ use key::Kind;
 use opening::Chunk;
 use opening::Opened;
 use refusal::Refusal;
-use store::Examined;
+use soundness::Examined;
+use soundness::Report;
 use store::Id;
-use store::Report;
 
 // Input over this many bytes is refused.
 const MOST_BYTES: usize = 65536;

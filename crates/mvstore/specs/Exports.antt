@@ -8,8 +8,8 @@ use Rattle.store.specs.declared.Value.{Value as Found}
 use Rattle.store.specs.declared.Value.the-variants as found
 use Rattle.store.specs.declared.Counted.{Counted}
 use Rattle.store.specs.declared.Counted.the-variants as counted
-use Rattle.store.specs.declared.Examined.{Examined}
-use Rattle.store.specs.declared.Examined.the-variants as examined
+use Rattle.soundness.specs.declared.Examined.{Examined}
+use Rattle.soundness.specs.declared.Examined.the-variants as examined
 use Rattle.cursor.specs.declared.Walk.{Walk}
 use Rattle.walk.specs.declared.Next.{Next}
 use Rattle.walk.specs.declared.Next.the-variants as next

@@ -4,15 +4,15 @@
 use cursor::Walk;
 use map::Item;
 use opening::Opened;
+use soundness::Examined;
 use store::Counted;
-use store::Examined;
 use walk::Next;
 ghost use mathlib.Core.Path.{_≡_};
 ghost use lib.ListN.{length};
 ghost use Rattle.opening.specs.Opening.{opened};
 ghost use Rattle.store.specs.Store.{idSaid};
 ghost use Rattle.store.specs.Asking.{valueOf, countedOf};
-ghost use Rattle.store.specs.Examining.{examinedOf};
+ghost use Rattle.soundness.specs.Examining.{examinedOf};
 ghost use Rattle.walk.specs.Stepping.{stepOf};
 ghost use Rattle.examine.specs.Examine.{examineOf};
 ghost use Rattle.map.specs.Map.{lookupOf, indexOf, countOf, copyOf, namedOf, itemOf, areaAfter};

@@ -29,17 +29,19 @@ use Rattle.page.specs.Judged.{keyForm}
 use Rattle.content.specs.Content.{keyIn, keysIn, positionsIn, countsIn}
 use Rattle.content.specs.WholeLaws.{InnerWhole, childrenIn, total-whole}
 use Rattle.rising.specs.declared.Bound.{Bound}
-use Rattle.store.specs.declared.Examined.{Examined}
-use Rattle.store.specs.declared.Examined.the-variants as examined
-use Rattle.store.specs.declared.Report.{Report as Figures}
-use Rattle.store.specs.declared.examining.Inner.{Inner}
-use Rattle.store.specs.declared.examining.Child.{Child}
+use Rattle.rising.specs.Rising.{boundKey}
+use Rattle.rising.specs.RisingLaws.{keys-at}
+use Rattle.soundness.specs.declared.Examined.{Examined}
+use Rattle.soundness.specs.declared.Examined.the-variants as examined
+use Rattle.soundness.specs.declared.Report.{Report as Figures}
+use Rattle.soundness.specs.declared.Inner.{Inner}
+use Rattle.soundness.specs.declared.Child.{Child}
+use Rattle.soundness.specs.Examining.{figures, examinedOf, separatorAt, childOf}
+use Rattle.soundness.specs.ItemLaws.{counts-next, NextKey, keys-next}
 use Rattle.store.specs.Store.{reader}
 use Rattle.store.specs.ReaderLaws.{reader-below}
-use Rattle.rising.specs.RisingLaws.{keys-at}
-use Rattle.rising.specs.Rising.{boundKey}
-use Rattle.store.specs.Examining.{figures, examinedOf, separatorAt, childOf, tallied, Fits}
-use Rattle.store.specs.TallyLaws.{reported, tally-refused, PassedChild, tally-passed, few-pages, fits-all, counts-next, NextKey, keys-next}
+use Rattle.store.specs.Examining.{tallied, Fits}
+use Rattle.store.specs.TallyLaws.{reported, tally-refused, PassedChild, tally-passed, few-pages, fits-all}
 
 -- ## The loop
 both-nothing : (o : Outcome Report) → bind o (λ a. ok (both nothing a)) ≡ o

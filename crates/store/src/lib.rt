@@ -81,18 +81,6 @@ pub enum Counted {
     Refused(Refusal),
 }
 
-// What the examination reports: entries, pages and the deepest page's depth.
-pub struct Report {
-    pub entries: u64,
-    pub pages: u64,
-    pub depth: u32,
-}
-
-pub enum Examined {
-    Passed(Report),
-    Refused(Refusal),
-}
-
 // How many questions may be open at once.
 pub const QUESTIONS: u32 = 8;
 

@@ -1,6 +1,6 @@
 use mathlib.Core.Path.{sym, _∙_, ap}
 use denote.Ref.{now}
-use Rattle.store.specs.Examining.{examinedOf}
+use Rattle.soundness.specs.Examining.{examinedOf}
 use Rattle.examine.specs.Examine.{examineOf}
 use Rattle.map.specs.MapLaws.{asking-bad, asking-told, asked-refused, asked-told}
 use borrow.Author.Needs.{needs}

@@ -1,6 +1,6 @@
 use mathlib.Core.Path.{refl, sym, _∙_, ap}
 use denote.Ref.{now}
-use Rattle.store.specs.Examining.{examinedOf}
+use Rattle.soundness.specs.Examining.{examinedOf}
 use Rattle.map.specs.MapLaws.{asking-shut, asking-open}
 use borrow.Author.Needs.{needs}
 use Rattle.examine.proofs.examine_in.Statement.{statement}

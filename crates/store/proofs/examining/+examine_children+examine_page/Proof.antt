@@ -2,7 +2,7 @@ use mathlib.Core.Path.{sym, _∙_, ap}
 use native.Mathlib.Omega.{arith}
 use denote.Ref.{now}
 use borrow.Author.Needs.{needs}
-use Rattle.store.specs.declared.examining.Inner.{Inner}
+use Rattle.soundness.specs.declared.Inner.{Inner}
 use Rattle.store.specs.Memory.{RightWords}
 use Rattle.store.specs.Examining.{overChildren}
 use Rattle.store.specs.ExamineLaws.{examined-deep, examined-refused, examined-leaf, examined-unsound, examined-inner, inner-stands}
@@ -17,8 +17,8 @@ use Rattle.store.proofs.examining.examine_page.Reads as examine-page
 use Rattle.store.proofs.examining.examine_page.Kinds as examine-page-kinds
 use Rattle.store.proofs.examining.+examine_children+examine_page.Lts-examine_page as examine-page-lts
 use Rattle.refusal.proofs.Refusal.new.Reads as new-reads
-use Rattle.store.proofs.examining.child_at.Reads as child-at-reads
-use Rattle.store.proofs.examining.leaf_of.Reads as leaf-of-reads
+use Rattle.soundness.proofs.child_at.Reads as child-at-reads
+use Rattle.soundness.proofs.leaf_of.Reads as leaf-of-reads
 use Rattle.store.proofs.examining.over_children.Reads as over-children-reads
 use Rattle.store.proofs.examining.tally.Reads as tally-reads
 use Rattle.store.proofs.read.read_page.Reads as read-page-reads

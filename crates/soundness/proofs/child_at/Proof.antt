@@ -2,9 +2,9 @@ use Prim.Native.Nat.{_≤_}
 use native.Mathlib.Omega.{arith}
 use borrow.Author.Needs.{needs}
 use borrow.Author.Tests.{lt-ltb, le-ltb}
-use Rattle.store.specs.Examining.{childOf}
-use Rattle.store.proofs.examining.child_at.Statement.{statement}
-use Rattle.store.proofs.examining.child_at.Tie as tie
+use Rattle.soundness.specs.Examining.{childOf}
+use Rattle.soundness.proofs.child_at.Statement.{statement}
+use Rattle.soundness.proofs.child_at.Tie as tie
 
 returns : tie.Need-returns
 unfolding childOf

@@ -1,7 +1,7 @@
 use borrow.Author.Needs.{needs}
-use Rattle.store.specs.Examining.{separatorAt}
-use Rattle.store.proofs.examining.separator_at.Statement.{statement}
-use Rattle.store.proofs.examining.separator_at.Tie as tie
+use Rattle.soundness.specs.Examining.{separatorAt}
+use Rattle.soundness.proofs.separator_at.Statement.{statement}
+use Rattle.soundness.proofs.separator_at.Tie as tie
 
 returns : tie.Need-returns
 unfolding separatorAt

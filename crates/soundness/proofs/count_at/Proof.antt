@@ -1,7 +1,7 @@
 use borrow.Author.Needs.{needs}
-use Rattle.store.specs.Examining.{recordedAt}
-use Rattle.store.proofs.examining.count_at.Statement.{statement}
-use Rattle.store.proofs.examining.count_at.Tie as tie
+use Rattle.soundness.specs.Examining.{recordedAt}
+use Rattle.soundness.proofs.count_at.Statement.{statement}
+use Rattle.soundness.proofs.count_at.Tie as tie
 
 returns : tie.Need-returns
 unfolding recordedAt

@@ -1,9 +1,9 @@
 use mathlib.Core.Logic.{⊎-elim}
 use denote.Ref.{now}
 use borrow.Author.Needs.{needs}
-use Rattle.store.specs.ExamineLaws.{full-top, full-some, leaf-empty, leaf-falls, leaf-passed}
-use Rattle.store.proofs.examining.leaf_of.Statement.{statement}
-use Rattle.store.proofs.examining.leaf_of.Tie as tie
+use Rattle.soundness.specs.LeafLaws.{full-top, full-some, leaf-empty, leaf-falls, leaf-passed}
+use Rattle.soundness.proofs.leaf_of.Statement.{statement}
+use Rattle.soundness.proofs.leaf_of.Tie as tie
 
 returns : tie.Need-returns
 returns c =
