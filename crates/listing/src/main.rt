@@ -3,12 +3,12 @@
 use cursor::Walk;
 use cursor::Yield;
 use key::Kind;
+use metadata::Id;
 use opening::Chunk;
 use opening::Opened;
 use refusal::Refusal;
 use soundness::Examined;
 use soundness::Report;
-use store::Id;
 
 // Input over this many bytes is refused.
 const MOST_BYTES: usize = 65536;

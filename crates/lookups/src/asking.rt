@@ -2,11 +2,11 @@
 use super::input;
 use super::output;
 use key::Kind;
+use metadata::Located;
 use opening::Chunk;
 use opening::Opened;
 use position::Position;
 use refusal::Refusal;
-use store::Located;
 
 // `map HEX`.
 fn map(line: &[u8], image: &[u8], newest: Chunk) {

@@ -1,10 +1,10 @@
 // What a question is answered.
 use super::input;
+use metadata::Id;
+use metadata::Located;
+use metadata::Root;
 use page::Judged;
 use refusal::Refusal;
-use store::Id;
-use store::Located;
-use store::Root;
 
 fn named(name: &[u8], value: u64) {
     io::write_all(1, name);

@@ -26,7 +26,8 @@ use Rattle.opening.specs.Opening.{opened}
 use Rattle.content.specs.Content.{Entry, keyIn}
 use Rattle.store.specs.declared.Fetched.{Fetched}
 use Rattle.store.specs.declared.Fetched.the-variants as fetched
-use Rattle.store.specs.Store.{bytesAt, mapId}
+use Rattle.metadata.specs.Answers.{bytesAt}
+use Rattle.store.specs.Store.{mapId}
 use Rattle.store.specs.Asking.{lookupIn, indexIn, countIn}
 use Rattle.map.specs.declared.Target.{Target}
 use Rattle.map.specs.declared.Target.the-variants as target

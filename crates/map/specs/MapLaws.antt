@@ -31,8 +31,8 @@ use Rattle.opening.specs.declared.Opened.the-variants as opened
 use Rattle.opening.specs.Opening.{opened}
 use Rattle.item.specs.Item.{Spot}
 use Rattle.content.specs.Content.{Entry, keyIn}
-use Rattle.store.specs.declared.Value.{Value}
-use Rattle.store.specs.declared.Value.the-variants as value
+use Rattle.metadata.specs.declared.Value.{Value}
+use Rattle.metadata.specs.declared.Value.the-variants as value
 use Rattle.store.specs.Store.{namedMap}
 use Rattle.store.specs.Asking.{lookupIn, indexIn, valueOf, fetchedOf}
 use Rattle.store.specs.AskLaws.{lookup-inside, index-key}

@@ -1,7 +1,7 @@
 // Copy: a lookup that also writes the value, at the start of an area that the caller lends.
 use super::lookup;
+use metadata::Value;
 use refusal::Refusal;
-use store::Value;
 ghost use Prim.Native.Nat.{_+_, _≤_};
 ghost use mathlib.Core.Path.{_≡_};
 ghost use mathlib.Core.List.{_++_};

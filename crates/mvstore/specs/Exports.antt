@@ -4,8 +4,8 @@ use lib.IntN.{pos}
 use Rattle.refusal.specs.Refusal.{Outcome, ok, refuse}
 use Rattle.opening.specs.declared.Opened.{Opened}
 use Rattle.opening.specs.declared.Opened.the-variants as opened
-use Rattle.store.specs.declared.Value.{Value as Found}
-use Rattle.store.specs.declared.Value.the-variants as found
+use Rattle.metadata.specs.declared.Value.{Value as Found}
+use Rattle.metadata.specs.declared.Value.the-variants as found
 use Rattle.store.specs.declared.Counted.{Counted}
 use Rattle.store.specs.declared.Counted.the-variants as counted
 use Rattle.soundness.specs.declared.Examined.{Examined}

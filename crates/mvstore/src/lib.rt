@@ -10,7 +10,7 @@ use walk::Next;
 ghost use mathlib.Core.Path.{_≡_};
 ghost use lib.ListN.{length};
 ghost use Rattle.opening.specs.Opening.{opened};
-ghost use Rattle.store.specs.Store.{idSaid};
+ghost use Rattle.metadata.specs.Answers.{idSaid};
 ghost use Rattle.store.specs.Asking.{valueOf, countedOf};
 ghost use Rattle.soundness.specs.Examining.{examinedOf};
 ghost use Rattle.walk.specs.Stepping.{stepOf};
@@ -103,23 +103,23 @@ fn newest_out(o: Opened) -> Newest
     }
 }
 
-fn value_out(v: store::Value) -> Value
+fn value_out(v: metadata::Value) -> Value
     ensures { λ r. ⌜ r ≡ valueOut v ⌝ }
 {
     match v {
-        store::Value::At { at, len } => Value {
+        metadata::Value::At { at, len } => Value {
             refusal: 0,
             found: 1,
             at: at as u64,
             len: len as u64,
         },
-        store::Value::Absent => Value {
+        metadata::Value::Absent => Value {
             refusal: 0,
             found: 0,
             at: 0,
             len: 0,
         },
-        store::Value::Refused(r) => Value {
+        metadata::Value::Refused(r) => Value {
             refusal: r.number as u32,
             found: 0,
             at: 0,
@@ -174,15 +174,15 @@ fn count_out(c: Counted) -> Count
     }
 }
 
-fn id_out(i: store::Id) -> Id
+fn id_out(i: metadata::Id) -> Id
     ensures { λ r. ⌜ r ≡ idOut (idSaid i) ⌝ }
 {
     match i {
-        store::Id::Is(n) => Id {
+        metadata::Id::Is(n) => Id {
             refusal: 0,
             id: n as u64,
         },
-        store::Id::Refused(r) => Id {
+        metadata::Id::Refused(r) => Id {
             refusal: r.number as u32,
             id: 0,
         },

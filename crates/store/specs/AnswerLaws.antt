@@ -3,12 +3,10 @@ use Prim.Native.Nat.{ℕ, _≤_, _<_}
 use mathlib.Core.Path.{_≡_, sym}
 use mathlib.Core.List.{List}
 use mathlib.Core.Option.{none, some}
-use native.Mathlib.Omega.{arith}
 use lib.ListN.{length}
-use borrow.Author.Tests.{eq-eqb, ne-eqb, lt-ltb, le-ltb, le-leb, lt-leb}
+use borrow.Author.Tests.{eq-eqb, ne-eqb, lt-ltb, le-ltb}
 use Rattle.refusal.specs.declared.Refusal.{Refusal}
-use Rattle.refusal.specs.Refusal.{ok, refuse, bind, badArgument, notANumber}
-use Rattle.numeral.specs.declared.hex.Number.the-variants as number
+use Rattle.refusal.specs.Refusal.{ok, refuse, bind, badArgument}
 use Rattle.key.specs.declared.Kind.{Kind}
 use Rattle.key.specs.declared.Kind.the-variants.{Text}
 use Rattle.key.specs.Key.{Key, keyOf, text, compareKeys}
@@ -16,25 +14,14 @@ use Rattle.tree.specs.Asking.{mapLookup}
 use Rattle.locating.specs.GateLaws.{gated-open}
 use Rattle.opening.specs.declared.chunk.Chunk.{Chunk}
 use Rattle.content.specs.Content.{Entry}
-use Rattle.store.specs.declared.Told.{Told}
-use Rattle.store.specs.declared.Told.the-variants as told
-use Rattle.store.specs.declared.Looked.{Looked}
-use Rattle.store.specs.declared.Looked.the-variants as looked
-use Rattle.store.specs.Store.{chunkAt, reader, metaValue, nameKey, rootKey, idOf, namedId, namedRoot, mapId, mapRoot}
-use Rattle.store.specs.Store.{namedMap, placeSaid}
+use Rattle.metadata.specs.declared.Told.{Told}
+use Rattle.metadata.specs.declared.Told.the-variants as told
+use Rattle.metadata.specs.declared.Looked.{Looked}
+use Rattle.metadata.specs.declared.Looked.the-variants as looked
+use Rattle.metadata.specs.Answers.{namedId, namedRoot, placeSaid, locatedBy, valueBy, idBy, rootBy}
+use Rattle.store.specs.Store.{chunkAt, reader, metaValue, nameKey, rootKey, mapId, mapRoot, namedMap}
 use Rattle.store.specs.Asking.{valueOf}
 use Rattle.store.specs.Memory.{TellsOf, Sought}
-use Rattle.store.specs.Steps.{locatedBy, valueBy, idBy, rootBy}
-
--- ## Numbers
-pub id-low : (v : ℕ) → v < 1 → idOf (number.Value v) ≡ refuse notANumber
-id-low v h = rw (lt-leb 1 v h)
-
-pub id-high : (v : ℕ) → 0x7fffffff < v → idOf (number.Value v) ≡ refuse notANumber
-id-high v h = rw (le-leb 1 v (omega arith), lt-leb v 0x7fffffff h)
-
-pub id-right : (v : ℕ) → 1 ≤ v → v ≤ 0x7fffffff → idOf (number.Value v) ≡ ok v
-id-right v h i = rw (le-leb 1 v h, le-leb v 0x7fffffff i)
 
 module _ (image : List ℕ) (newest : Chunk) where
   -- ## Where a chunk is

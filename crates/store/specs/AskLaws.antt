@@ -32,19 +32,19 @@ use Rattle.content.specs.Content.{Entry, keyIn, entriesIn, positionsIn, countsI
 use Rattle.content.specs.InsideLaws.{EntryIn, page-in}
 use Rattle.content.specs.PickLaws.{picked}
 use Rattle.content.specs.WholeLaws.{Whole, index-whole, total-whole}
-use Rattle.store.specs.declared.Root.{Root}
-use Rattle.store.specs.declared.Root.the-variants as root
-use Rattle.store.specs.declared.Looked.{Looked}
-use Rattle.store.specs.declared.Value.the-variants as value
+use Rattle.metadata.specs.declared.Root.{Root}
+use Rattle.metadata.specs.declared.Root.the-variants as root
+use Rattle.metadata.specs.declared.Looked.{Looked}
+use Rattle.metadata.specs.declared.Value.the-variants as value
+use Rattle.metadata.specs.Answers.{rootSaid, valueBy}
 use Rattle.store.specs.declared.Fetched.{Fetched}
 use Rattle.store.specs.declared.Fetched.the-variants as fetched
 use Rattle.store.specs.declared.Counted.{Counted}
 use Rattle.store.specs.declared.Counted.the-variants as counted
 use Rattle.store.specs.declared.fetch.Turn.{Turn}
 use Rattle.store.specs.declared.fetch.Turn.the-variants as turn
-use Rattle.store.specs.Store.{reader, mapRoot, rootSaid}
+use Rattle.store.specs.Store.{reader, mapRoot}
 use Rattle.store.specs.Memory.{Sought}
-use Rattle.store.specs.Steps.{valueBy}
 use Rattle.store.specs.Asking.{judgedBy, lookupIn, indexIn, countIn, valueOf, fetchedOf, countedOf, entryTurn, childTurn, turnOf}
 use Rattle.store.specs.AnswerLaws.{value-sought}
 use Rattle.store.specs.ReadLaws.{reader-judged, judged-all}

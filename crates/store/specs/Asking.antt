@@ -22,8 +22,8 @@ use Rattle.page.specs.declared.Judged.{Judged}
 use Rattle.page.specs.declared.Judged.the-variants as judged
 use Rattle.page.specs.Judged.{judgedAt}
 use Rattle.content.specs.Content.{Entry, entriesIn, positionsIn, countsIn, pick}
-use Rattle.store.specs.declared.Value.{Value}
-use Rattle.store.specs.declared.Value.the-variants as value
+use Rattle.metadata.specs.declared.Value.{Value}
+use Rattle.metadata.specs.declared.Value.the-variants as value
 use Rattle.store.specs.declared.Fetched.{Fetched}
 use Rattle.store.specs.declared.Fetched.the-variants as fetched
 use Rattle.store.specs.declared.Counted.{Counted}

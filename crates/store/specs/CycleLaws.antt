@@ -23,18 +23,20 @@ use Rattle.opening.specs.declared.chunk.Chunk.{Chunk}
 use Rattle.page.specs.declared.Place.{Place}
 use Rattle.content.specs.Content.{Entry, pageIn}
 use Rattle.store.specs.declared.memory.Recalled.the-variants as recalled
-use Rattle.store.specs.declared.Told.{Told}
-use Rattle.store.specs.declared.Told.the-variants as told
-use Rattle.store.specs.declared.Looked.{Looked}
-use Rattle.store.specs.declared.Looked.the-variants as looked
-use Rattle.store.specs.declared.step.Advance.{Advance}
-use Rattle.store.specs.declared.step.Advance.the-variants.{To, Done}
-use Rattle.store.specs.Store.{placeOf, metadata, chunkKey}
+use Rattle.metadata.specs.declared.Told.{Told}
+use Rattle.metadata.specs.declared.Told.the-variants as told
+use Rattle.metadata.specs.declared.Looked.{Looked}
+use Rattle.metadata.specs.declared.Looked.the-variants as looked
+use Rattle.metadata.specs.declared.descent.Advance.{Advance}
+use Rattle.metadata.specs.declared.descent.Advance.the-variants.{To, Done}
+use Rattle.metadata.specs.Answers.{placeOf}
+use Rattle.store.specs.Store.{metadata, chunkKey}
 use Rattle.store.specs.Memory.{recalledIn, RightWords}
 use Rattle.store.specs.Memory.{TellsOf, Sought}
 use Rattle.store.specs.MemoryLaws.{recalled-known}
 use Rattle.store.specs.SettleLaws.{settled-tells, settled-right}
-use Rattle.store.specs.Steps.{foundStep, stepOf, advanceBy, advanceOf, settledTold, settledWords}
+use Rattle.metadata.specs.Descent.{foundStep, stepOf, advanceBy, advanceOf}
+use Rattle.store.specs.Steps.{settledTold, settledWords}
 
 module _ (image : List ℕ) (newest : Chunk) where
   -- ## Locating a chunk

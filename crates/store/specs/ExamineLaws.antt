@@ -28,13 +28,14 @@ use Rattle.content.specs.WholeLaws.{Whole, LeafWhole, InnerWhole, childrenIn, k
 use Rattle.rising.specs.declared.Bound.{Bound}
 use Rattle.rising.specs.declared.Bound.the-variants as bound
 use Rattle.rising.specs.Rising.{boundKey}
+use Rattle.metadata.specs.declared.Root.{Root}
+use Rattle.metadata.specs.declared.Root.the-variants as root
+use Rattle.metadata.specs.Answers.{rootSaid}
 use Rattle.soundness.specs.declared.Examined.{Examined}
 use Rattle.soundness.specs.declared.Examined.the-variants as examined
 use Rattle.soundness.specs.Examining.{examinedOf, leafOf}
 use Rattle.soundness.specs.LeafLaws.{leaf-law}
-use Rattle.store.specs.declared.Root.{Root}
-use Rattle.store.specs.declared.Root.the-variants as root
-use Rattle.store.specs.Store.{reader, mapRoot, rootSaid}
+use Rattle.store.specs.Store.{reader, mapRoot}
 use Rattle.store.specs.Asking.{judgedBy}
 use Rattle.store.specs.ReadLaws.{reader-judged, judged-all}
 use Rattle.store.specs.Examining.{examineIn, overChildren}

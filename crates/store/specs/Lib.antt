@@ -9,7 +9,6 @@ pub mod Keys
 pub mod KeyLaws
 pub mod MemoryLaws
 pub mod SettleLaws
-pub mod StepLaws
 pub mod CycleLaws
 pub mod AnswerLaws
 pub mod ReaderLaws

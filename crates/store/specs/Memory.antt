@@ -27,10 +27,10 @@ use Rattle.locating.specs.Locating.{located}
 use Rattle.locating.specs.Known.{Gated, Known, askedIn}
 use Rattle.store.specs.declared.memory.Recalled.{Recalled}
 use Rattle.store.specs.declared.memory.Recalled.the-variants.{At, Free, Full}
-use Rattle.store.specs.declared.Told.{Told}
-use Rattle.store.specs.declared.Told.the-variants as told
-use Rattle.store.specs.declared.Looked.{Looked}
-use Rattle.store.specs.declared.Looked.the-variants as looked
+use Rattle.metadata.specs.declared.Told.{Told}
+use Rattle.metadata.specs.declared.Told.the-variants as told
+use Rattle.metadata.specs.declared.Looked.{Looked}
+use Rattle.metadata.specs.declared.Looked.the-variants as looked
 use Rattle.store.specs.Store.{metadata}
 
 abbrev pub places : ℕ

@@ -16,12 +16,12 @@ use Rattle.page.specs.declared.Judged.the-variants as judged
 use Rattle.page.specs.Judged.{judgedAt}
 use Rattle.content.specs.Content.{pageOf, pageIn}
 use Rattle.content.specs.WholeLaws.{Whole, judged-whole}
-use Rattle.store.specs.declared.Told.{Told}
-use Rattle.store.specs.declared.Told.the-variants as told
-use Rattle.store.specs.Store.{chunkAt, reader, placeSaid}
+use Rattle.metadata.specs.declared.Told.{Told}
+use Rattle.metadata.specs.declared.Told.the-variants as told
+use Rattle.metadata.specs.Answers.{placeSaid, locatedBy}
+use Rattle.store.specs.Store.{chunkAt, reader}
 use Rattle.store.specs.Asking.{judgedIn, judgedBy}
 use Rattle.store.specs.Memory.{TellsOf}
-use Rattle.store.specs.Steps.{locatedBy}
 use Rattle.store.specs.AnswerLaws.{place-told}
 
 module _ (image : List ℕ) (newest : Chunk) (map : ℕ) (kind : Kind) (p : ℕ) where

@@ -24,12 +24,14 @@ use Rattle.key.specs.Key.{Key, text}
 use Rattle.locating.specs.StepLaws.{asked-refused, placed-refused, placed-known}
 use Rattle.store.specs.declared.memory.Recalled.{Recalled}
 use Rattle.store.specs.declared.memory.Recalled.the-variants as recalled
-use Rattle.store.specs.declared.Told.the-variants as told
-use Rattle.store.specs.declared.Looked.{Looked}
-use Rattle.store.specs.declared.Looked.the-variants as looked
-use Rattle.store.specs.Store.{bytesAt, chunkKey, placeOf, standingBy, metadata}
+use Rattle.metadata.specs.declared.Told.the-variants as told
+use Rattle.metadata.specs.declared.Looked.{Looked}
+use Rattle.metadata.specs.declared.Looked.the-variants as looked
+use Rattle.metadata.specs.Answers.{bytesAt, placeOf, standingBy}
+use Rattle.store.specs.Store.{chunkKey, metadata}
 use Rattle.store.specs.Memory.{recalledIn, RightWords, TellsOf, Sought}
-use Rattle.store.specs.Steps.{needOf, toldBy, settledTold, wordsBy, settledWords}
+use Rattle.metadata.specs.Answers.{needOf}
+use Rattle.store.specs.Steps.{toldBy, settledTold, wordsBy, settledWords}
 use Rattle.store.specs.MemoryLaws.{Held, kept-right}
 
 module _ (image : List ℕ) (n : ℕ) (v : Spot) {c : Chunk} (e : standingBy image n v ≡ Stands c) where

@@ -15,6 +15,9 @@ use Rattle.tree.specs.Walk.{Moved, over, stop, mapNext}
 use Rattle.tree.specs.WalkLaws.{raised, length-raised, zeros-more, leftmostAt, map-empty, map-empty-numbers, map-first}
 use Rattle.opening.specs.declared.chunk.Chunk.{Chunk}
 use Rattle.content.specs.Content.{Entry}
+use Rattle.metadata.specs.declared.Root.{Root}
+use Rattle.metadata.specs.declared.Root.the-variants as root
+use Rattle.metadata.specs.Answers.{rootSaid}
 use Rattle.cursor.specs.declared.Walk.{Walk}
 use Rattle.cursor.specs.declared.Yield.the-variants as yields
 use Rattle.cursor.specs.declared.Stepped.{Stepped}
@@ -25,9 +28,7 @@ use Rattle.cursor.specs.declared.follow.Leftmost.the-variants as leftmost
 use Rattle.cursor.specs.Walk.{formed, numbers, leading, closed, doneNumber, settled, movedBy}
 use Rattle.cursor.specs.Steps.{placed, leftStep}
 use Rattle.cursor.specs.StateLaws.{leading-placed, settled-prefixed}
-use Rattle.store.specs.declared.Root.{Root}
-use Rattle.store.specs.declared.Root.the-variants as root
-use Rattle.store.specs.Store.{reader, mapRoot, rootSaid}
+use Rattle.store.specs.Store.{reader, mapRoot}
 use Rattle.store.specs.Walk.{stepIn}
 use Rattle.store.specs.WalkWays.{CameLeft, CameDown}
 

@@ -1,15 +1,15 @@
 // Lookup, index and count of a map, by its id and kind, in a store that is open.
 use super::Counted;
 use super::Fetched;
-use super::Looked;
 use super::QUESTIONS;
-use super::Root;
-use super::Value;
 use super::fetch::fetch_from;
 use super::locate::descend;
 use super::read::read_page;
 use super::read::root_at;
 use key::Kind;
+use metadata::Root;
+use metadata::Value;
+use metadata::value_by;
 use opening::Chunk;
 use page::Judged;
 ghost use mathlib.Core.Path.{_≡_};
@@ -18,17 +18,6 @@ ghost use Rattle.tree.specs.Asking.{mapCount};
 ghost use Rattle.store.specs.Store.{reader};
 ghost use Rattle.store.specs.Memory.{RightWords};
 ghost use Rattle.store.specs.Asking.{lookupIn, indexIn, countIn, valueOf, fetchedOf, countedOf};
-ghost use Rattle.store.specs.Steps.{valueBy};
-
-fn value_by(f: Looked) -> Value
-    ensures { λ r. ⌜ r ≡ valueBy f ⌝ }
-{
-    match f {
-        Looked::Found { at, len, need: _ } => Value::At { at, len },
-        Looked::Absent { need: _ } => Value::Absent,
-        Looked::Refused(r) => Value::Refused(r),
-    }
-}
 
 // The value of `key` in the map.
 pub fn lookup(image: &[u8], newest: Chunk, map: u32, kind: Kind, key: &[u8]) -> Value

@@ -1,9 +1,9 @@
 // The examination of a map: depth first, a page's own rules before its keys, its separators before its
 // children, a child before its recorded count.
-use super::Root;
 use super::read::read_page;
 use super::read::root_at;
 use key::Kind;
+use metadata::Root;
 use opening::Chunk;
 use page::Judged;
 use refusal::Refusal;

@@ -1,15 +1,15 @@
 // Locating a chunk and a descent, which ask each other. What was located is remembered in an array
 // that the caller lends; `q` is how many questions may still be opened.
-use super::Looked;
-use super::Told;
 use super::keys::number_key;
 use super::memory::Recalled;
 use super::memory::recall;
-use super::settle::place_of;
 use super::settle::settle;
-use super::step::Advance;
-use super::step::advance_at;
 use key::Kind;
+use metadata::Advance;
+use metadata::Looked;
+use metadata::Told;
+use metadata::advance_at;
+use metadata::place_of;
 use opening::Chunk;
 use position::Position;
 use refusal::Refusal;

@@ -1,6 +1,6 @@
 // What a call remembers of the chunks that it located: two words for each, in an array of the call's
 // own. A place that is taken is never replaced; a free one is 0.
-use super::Told;
+use metadata::Told;
 use page::Place;
 ghost use Prim.Native.Nat.{_<_};
 ghost use mathlib.Core.Path.{_≡_};

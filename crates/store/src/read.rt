@@ -1,19 +1,19 @@
 // A page of a map by its position, and a map's root, with what the call remembers.
-use super::Looked;
 use super::QUESTIONS;
-use super::Root;
-use super::Told;
 use super::keys::number_key;
 use super::locate::descend;
 use super::locate::locate;
-use super::root_by;
 use key::Kind;
+use metadata::Root;
+use metadata::Told;
+use metadata::root_by;
 use opening::Chunk;
 use page::Judged;
 use position::Position;
 use refusal::Refusal;
 ghost use mathlib.Core.Path.{_≡_};
-ghost use Rattle.store.specs.Store.{mapRoot, rootSaid};
+ghost use Rattle.metadata.specs.Answers.{rootSaid};
+ghost use Rattle.store.specs.Store.{mapRoot};
 ghost use Rattle.store.specs.Memory.{RightWords};
 ghost use Rattle.store.specs.Asking.{judgedBy};
 

@@ -1,5 +1,4 @@
 // One step of the walk in a store that is open.
-use super::Root;
 use super::down::down_by;
 use super::down::leftmost_from;
 use super::read::root_at;
@@ -11,6 +10,7 @@ use cursor::is_formed;
 use cursor::left_step;
 use cursor::placed;
 use key::Kind;
+use metadata::Root;
 use opening::Chunk;
 use refusal::Refusal;
 ghost use mathlib.Core.Path.{_≡_};

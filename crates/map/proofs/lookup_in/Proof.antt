@@ -1,6 +1,6 @@
 use mathlib.Core.Path.{sym, _∙_, ap}
 use denote.Ref.{now}
-use Rattle.store.specs.declared.Value.the-variants as value
+use Rattle.metadata.specs.declared.Value.the-variants as value
 use Rattle.store.specs.Asking.{valueOf}
 use Rattle.map.specs.MapLaws.{asking-bad, asking-shut, asking-open, keyed-bad, keyed-well}
 use borrow.Author.Needs.{needs}

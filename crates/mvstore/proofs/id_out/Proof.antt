@@ -1,6 +1,6 @@
 use mathlib.Core.Path.{sym, ap}
-use Rattle.store.specs.Store.{idSaid}
-use Rattle.store.specs.declared.Id.{Id}
+use Rattle.metadata.specs.Answers.{idSaid}
+use Rattle.metadata.specs.declared.Id.{Id}
 use Rattle.mvstore.specs.Exports.{idOut}
 use borrow.Author.Needs.{needs}
 use Rattle.mvstore.proofs.id_out.Statement.{statement}

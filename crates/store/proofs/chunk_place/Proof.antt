@@ -1,7 +1,7 @@
 use mathlib.Core.Path.{_∙_, ap}
 use native.Mathlib.Omega.{arith}
 use denote.Ref.{now}
-use Rattle.store.specs.Store.{placeSaid}
+use Rattle.metadata.specs.Answers.{placeSaid}
 use Rattle.store.specs.MemoryLaws.{empty-right}
 use Rattle.store.specs.AnswerLaws.{place-told}
 use borrow.Author.Needs.{needs}

@@ -21,9 +21,9 @@ use Rattle.position.proofs.Position.chunk.Reads as chunk-reads
 use Rattle.refusal.proofs.Refusal.new.Reads as new-reads
 use Rattle.store.proofs.keys.number_key.Reads as number-key-reads
 use Rattle.store.proofs.memory.recall.Reads as recall-reads
-use Rattle.store.proofs.settle.place_of.Reads as place-of-reads
+use Rattle.metadata.proofs.place_of.Reads as place-of-reads
 use Rattle.store.proofs.settle.settle.Reads as settle-reads
-use Rattle.store.proofs.step.advance_at.Reads as advance-at-reads
+use Rattle.metadata.proofs.advance_at.Reads as advance-at-reads
 use Rattle.store.proofs.locate.+descend+locate.{statement}
 use Rattle.store.proofs.locate.+descend+locate.Tie.{close}
 

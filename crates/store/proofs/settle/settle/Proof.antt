@@ -1,7 +1,8 @@
 use native.Mathlib.Omega.{arith}
 use mathlib.Core.Path.{refl, sym, ap, _∙_}
-use Rattle.store.specs.declared.Told.the-variants.{Refused}
-use Rattle.store.specs.Steps.{needOf, settledTold, settledWords}
+use Rattle.metadata.specs.declared.Told.the-variants.{Refused}
+use Rattle.metadata.specs.Answers.{needOf}
+use Rattle.store.specs.Steps.{settledTold, settledWords}
 use Rattle.store.specs.MemoryLaws.{Held}
 use Rattle.store.specs.SettleLaws.{standing-held}
 use borrow.Author.Needs.{needs}

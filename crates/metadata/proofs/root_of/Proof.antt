@@ -1,8 +1,8 @@
 use mathlib.Core.Path.{ap}
 use Rattle.refusal.specs.Refusal.{refuse}
 use borrow.Author.Needs.{needs}
-use Rattle.store.proofs.root_of.Statement.{statement}
-use Rattle.store.proofs.root_of.Tie as tie
+use Rattle.metadata.proofs.root_of.Statement.{statement}
+use Rattle.metadata.proofs.root_of.Tie as tie
 
 returns : tie.Need-returns
 returns c = rw (c .before .n .given .1)

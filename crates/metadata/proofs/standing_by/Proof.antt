@@ -1,7 +1,7 @@
-use Rattle.store.specs.Store.{standingBy}
+use Rattle.metadata.specs.Answers.{standingBy}
 use borrow.Author.Needs.{needs}
-use Rattle.store.proofs.settle.standing_by.Statement.{statement}
-use Rattle.store.proofs.settle.standing_by.Tie as tie
+use Rattle.metadata.proofs.standing_by.Statement.{statement}
+use Rattle.metadata.proofs.standing_by.Tie as tie
 
 returns : tie.Need-returns
 unfolding standingBy

@@ -10,7 +10,7 @@ use refusal::Refusal;
 ghost use mathlib.Core.Path.{_≡_};
 ghost use Rattle.key.specs.Key.{keyOf};
 ghost use Rattle.content.specs.Content.{pageIn};
-ghost use Rattle.store.specs.Steps.{stepOf, advanceOf};
+ghost use Rattle.metadata.specs.Descent.{stepOf, advanceOf};
 
 // One page of a descent: the child to go on at, or what a leaf or a refusal answers.
 pub enum Step {

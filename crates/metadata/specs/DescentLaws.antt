@@ -16,11 +16,11 @@ use Rattle.page.specs.declared.Judged.the-variants as judged
 use Rattle.page.specs.Judged.{judgedAt}
 use Rattle.content.specs.declared.Found.the-variants as found
 use Rattle.content.specs.Content.{Entry, keysIn, positionsIn, countsIn, entriesIn, foundOf, pageOf, pageIn}
-use Rattle.store.specs.declared.Told.{Told}
-use Rattle.store.specs.declared.Told.the-variants as told
-use Rattle.store.specs.declared.step.Step.{Step}
-use Rattle.store.specs.declared.step.Step.the-variants as step
-use Rattle.store.specs.Steps.{foundStep, stepOf, advanceBy, advanceOf}
+use Rattle.metadata.specs.declared.Told.{Told}
+use Rattle.metadata.specs.declared.Told.the-variants as told
+use Rattle.metadata.specs.declared.descent.Step.{Step}
+use Rattle.metadata.specs.declared.descent.Step.the-variants as step
+use Rattle.metadata.specs.Descent.{foundStep, stepOf, advanceBy, advanceOf}
 
 found-step : (o : Option Entry) {at len : ℕ} → foundOf o ≡ found.At at len → foundStep o ≡ step.Found at len
 found-step none e = absurd (let z : _≡_ {A = ℕ} 0 1 = cc in omega arith)

@@ -1,11 +1,11 @@
 use mathlib.Core.Path.{sym, _∙_}
 use mathlib.Core.Logic.{⊎-elim}
 use native.Mathlib.Omega.{arith}
-use Rattle.store.specs.Steps.{advanceOf}
-use Rattle.store.specs.StepLaws.{advance-step}
+use Rattle.metadata.specs.Descent.{advanceOf}
+use Rattle.metadata.specs.DescentLaws.{advance-step}
 use borrow.Author.Needs.{needs}
-use Rattle.store.proofs.step.advance_at.Statement.{statement}
-use Rattle.store.proofs.step.advance_at.Tie as tie
+use Rattle.metadata.proofs.descent.advance_at.Statement.{statement}
+use Rattle.metadata.proofs.descent.advance_at.Tie as tie
 
 returns : tie.Need-returns
 unfolding advanceOf

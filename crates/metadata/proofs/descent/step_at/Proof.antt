@@ -1,10 +1,10 @@
 use mathlib.Core.Path.{sym, _∙_}
 use denote.Ref.{now}
 use Rattle.key.specs.Key.{keyOf}
-use Rattle.store.specs.StepLaws.{page-refuses, leaf-has, leaf-lacks, inner-leads}
+use Rattle.metadata.specs.DescentLaws.{page-refuses, leaf-has, leaf-lacks, inner-leads}
 use borrow.Author.Needs.{needs}
-use Rattle.store.proofs.step.step_at.Statement.{statement}
-use Rattle.store.proofs.step.step_at.Tie as tie
+use Rattle.metadata.proofs.descent.step_at.Statement.{statement}
+use Rattle.metadata.proofs.descent.step_at.Tie as tie
 
 returns : tie.Need-returns
 returns c =

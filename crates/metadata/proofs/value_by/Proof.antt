@@ -1,7 +1,7 @@
-use Rattle.store.specs.Steps.{valueBy}
+use Rattle.metadata.specs.Answers.{valueBy}
 use borrow.Author.Needs.{needs}
-use Rattle.store.proofs.ask.value_by.Statement.{statement}
-use Rattle.store.proofs.ask.value_by.Tie as tie
+use Rattle.metadata.proofs.value_by.Statement.{statement}
+use Rattle.metadata.proofs.value_by.Tie as tie
 
 returns : tie.Need-returns
 unfolding valueBy

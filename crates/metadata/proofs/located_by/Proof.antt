@@ -1,7 +1,7 @@
-use Rattle.store.specs.Steps.{locatedBy}
+use Rattle.metadata.specs.Answers.{locatedBy}
 use borrow.Author.Needs.{needs}
-use Rattle.store.proofs.located_by.Statement.{statement}
-use Rattle.store.proofs.located_by.Tie as tie
+use Rattle.metadata.proofs.located_by.Statement.{statement}
+use Rattle.metadata.proofs.located_by.Tie as tie
 
 returns : tie.Need-returns
 unfolding locatedBy

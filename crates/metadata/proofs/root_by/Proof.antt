@@ -1,10 +1,10 @@
 use mathlib.Core.Path.{_∙_, ap}
 use Rattle.numeral.specs.Hex.{hexOf}
-use Rattle.store.specs.Store.{rootOf}
-use Rattle.store.specs.Steps.{rootBy}
+use Rattle.metadata.specs.Answers.{rootOf}
+use Rattle.metadata.specs.Answers.{rootBy}
 use borrow.Author.Needs.{needs}
-use Rattle.store.proofs.root_by.Statement.{statement}
-use Rattle.store.proofs.root_by.Tie as tie
+use Rattle.metadata.proofs.root_by.Statement.{statement}
+use Rattle.metadata.proofs.root_by.Tie as tie
 
 returns : tie.Need-returns
 unfolding rootBy

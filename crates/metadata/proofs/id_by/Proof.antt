@@ -1,11 +1,11 @@
 use mathlib.Core.Path.{_∙_, ap}
 use Rattle.refusal.specs.Refusal.{refuse}
 use Rattle.numeral.specs.Hex.{hexOf}
-use Rattle.store.specs.Store.{idOf}
-use Rattle.store.specs.Steps.{idBy}
+use Rattle.metadata.specs.Answers.{idOf}
+use Rattle.metadata.specs.Answers.{idBy}
 use borrow.Author.Needs.{needs}
-use Rattle.store.proofs.id_by.Statement.{statement}
-use Rattle.store.proofs.id_by.Tie as tie
+use Rattle.metadata.proofs.id_by.Statement.{statement}
+use Rattle.metadata.proofs.id_by.Tie as tie
 
 returns : tie.Need-returns
 unfolding idBy

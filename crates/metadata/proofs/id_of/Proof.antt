@@ -1,9 +1,9 @@
 use mathlib.Core.Path.{sym, _∙_, ap}
 use Rattle.refusal.specs.Refusal.{refuse}
-use Rattle.store.specs.AnswerLaws.{id-low, id-high, id-right}
+use Rattle.metadata.specs.IdLaws.{id-low, id-high, id-right}
 use borrow.Author.Needs.{needs}
-use Rattle.store.proofs.id_of.Statement.{statement}
-use Rattle.store.proofs.id_of.Tie as tie
+use Rattle.metadata.proofs.id_of.Statement.{statement}
+use Rattle.metadata.proofs.id_of.Tie as tie
 
 returns : tie.Need-returns
 returns c = rw (c .before .enum-told .given .1, c .new .ensures)

@@ -1,0 +1,118 @@
+-- What the metadata's answers say, after document 01, "Where a chunk is" and "Asking".
+--
+--   bytesAt image spot      the bytes at a spot
+--   standingBy image n v    the chunk n that stands where the metadata value at v says, if it does
+--   idOf, rootOf            an id and a root by their hex digits
+--   namedId, namedRoot      the same by the value that the metadata has for a key, or by none
+--   needOf f                the questions that a lookup's answer took, 0 for a refusal
+--   locatedBy, valueBy, idBy, rootBy    the answers by what was told of a chunk, or by what a lookup answered
+--   placeSaid, idSaid, rootSaid  the answers of the code as outcomes
+use Prim.Native.Nat.{ℕ}
+use mathlib.Core.Bool.{false, cond}
+use mathlib.Core.List.{List}
+use mathlib.Core.Option.{Option, none, some}
+use lib.ListN.{getD, take, drop}
+use Rattle.refusal.specs.Refusal.{Outcome, ok, refuse, notLocated, noSuchName, notANumber}
+use Rattle.text.specs.Text.{within}
+use Rattle.numeral.specs.declared.hex.Number.{Number}
+use Rattle.numeral.specs.declared.hex.Number.the-variants as number
+use Rattle.numeral.specs.Hex.{hexOf}
+use Rattle.line.specs.declared.read.Fields.{Fields}
+use Rattle.line.specs.Fields.{readOf}
+use Rattle.tree.specs.Page.{branch}
+use Rattle.opening.specs.declared.chunk.Chunk.{Chunk}
+use Rattle.opening.specs.declared.chunk.Standing.{Standing}
+use Rattle.opening.specs.declared.chunk.Standing.the-variants.{Stands, Nothing}
+use Rattle.opening.specs.Names.{block}
+use Rattle.opening.specs.Chunk.{standsAt}
+use Rattle.opening.specs.Opening.{kept, hasId}
+use Rattle.item.specs.Item.{Spot}
+use Rattle.page.specs.declared.Place.{Place}
+use Rattle.content.specs.Content.{Entry}
+use Rattle.metadata.specs.declared.Told.{Told}
+use Rattle.metadata.specs.declared.Told.the-variants as told
+use Rattle.metadata.specs.declared.Looked.{Looked}
+use Rattle.metadata.specs.declared.Looked.the-variants as looked
+use Rattle.metadata.specs.declared.Located.{Located}
+use Rattle.metadata.specs.declared.Located.the-variants as located
+use Rattle.metadata.specs.declared.Id.{Id}
+use Rattle.metadata.specs.declared.Id.the-variants as id
+use Rattle.metadata.specs.declared.Root.{Root}
+use Rattle.metadata.specs.declared.Root.the-variants as root
+use Rattle.metadata.specs.declared.Value.{Value}
+use Rattle.metadata.specs.declared.Value.the-variants as value
+
+abbrev pub bytesAt : List ℕ → Spot → List ℕ
+bytesAt image s = take (s .len) (drop (s .at) image)
+
+-- ## Where a chunk is
+-- what a page's rules need of the chunk that it stands in
+abbrev pub placeOf : Chunk → Place
+placeOf c = record { block = c .block; len = c .len; first = c .first }
+
+-- "the value's bytes are a line in the sense above, without the newline; its `block` says where chunk N must stand"
+abbrev pub standsBy : List ℕ → ℕ → Fields → Standing
+standsBy image n f = cond (getD (f .given) block false) (kept (hasId n) (standsAt image (getD (f .values) block 0))) Nothing
+
+unfoldable pub standingBy : List ℕ → ℕ → Spot → Standing
+standingBy image n v = standsBy image n (readOf (bytesAt image v))
+
+-- "5: [..] unusable entry, or chunk not standing there"
+abbrev pub placedAt : Standing → Outcome Place
+placedAt Nothing = refuse notLocated
+placedAt (Stands c) = ok (placeOf c)
+
+-- ## A map's id and root
+-- "Hex values follow the digits rule of a line; an id is 1 to 2^31-1."
+abbrev pub idOf : Number → Outcome ℕ
+idOf (number.Value v) = branch (within 1 0x7fffffff v) (ok v) (refuse notANumber)
+idOf number.Bad = refuse notANumber
+
+abbrev pub rootOf : Number → Outcome ℕ
+rootOf (number.Value v) = ok v
+rootOf number.Bad = refuse notANumber
+
+abbrev pub namedId : List ℕ → Option Entry → Outcome ℕ
+namedId image none = refuse noSuchName
+namedId image (some e) = idOf (hexOf (bytesAt image (e .value)))
+
+abbrev pub namedRoot : List ℕ → Option Entry → Outcome ℕ
+namedRoot image none = ok 0
+namedRoot image (some e) = rootOf (hexOf (bytesAt image (e .value)))
+
+-- ## What the code hands back
+abbrev pub placeSaid : Located → Outcome Place
+placeSaid (located.At l) = ok l
+placeSaid (located.Refused r) = refuse r
+
+abbrev pub idSaid : Id → Outcome ℕ
+idSaid (id.Is n) = ok n
+idSaid (id.Refused r) = refuse r
+
+abbrev pub rootSaid : Root → Outcome ℕ
+rootSaid (root.At p) = ok p
+rootSaid (root.Refused r) = refuse r
+
+abbrev pub needOf : Looked → ℕ
+needOf (looked.Found at len need) = need
+needOf (looked.Absent need) = need
+needOf (looked.Refused r) = 0
+
+unfoldable pub locatedBy : Told → Located
+locatedBy (told.At l need) = located.At l
+locatedBy (told.Refused r) = located.Refused r
+
+unfoldable pub valueBy : Looked → Value
+valueBy (looked.Found at len need) = value.At at len
+valueBy (looked.Absent need) = value.Absent
+valueBy (looked.Refused r) = value.Refused r
+
+unfoldable pub idBy : List ℕ → Looked → Outcome ℕ
+idBy image (looked.Found at len need) = idOf (hexOf (bytesAt image (record { at = at; len = len })))
+idBy image (looked.Absent need) = refuse noSuchName
+idBy image (looked.Refused r) = refuse r
+
+unfoldable pub rootBy : List ℕ → Looked → Outcome ℕ
+rootBy image (looked.Found at len need) = rootOf (hexOf (bytesAt image (record { at = at; len = len })))
+rootBy image (looked.Absent need) = ok 0
+rootBy image (looked.Refused r) = refuse r

@@ -1,0 +1,4 @@
+pub mod Answers
+pub mod Descent
+pub mod DescentLaws
+pub mod IdLaws
