@@ -5,7 +5,7 @@
 --     2i      26 chunk id, 28 block, 4 need (never 0, so that a free place is 0)
 --     2i+1    28 len, 32 first
 --
---   places ws                      how many chunks the words have room for: two words each, in the first two thirds
+--   places ws                      how many chunks the words have room for: two words each
 --   chunkIn w, placeIn w v, needIn w    what two words hold
 --   firstWord, secondWord          the words of a chunk
 --   soughtIn ws c                  the first place that is free or holds a chunk whose id is not below c, by halving
@@ -24,7 +24,7 @@ use Rattle.memory.specs.declared.Recalled.{Recalled}
 use Rattle.memory.specs.declared.Recalled.the-variants.{At, Free, Full}
 
 abbrev pub places : List ℕ → ℕ
-places ws = length ws / 3
+places ws = length ws / 2
 
 abbrev pub chunkIn : ℕ → ℕ
 chunkIn w = w / 0x100000000

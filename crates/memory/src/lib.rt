@@ -1,5 +1,5 @@
-// What a call remembers of the chunks that it located: two words for each, in the first two thirds of
-// an array of the call's own. The places taken come first, in the order of their chunks' ids, so that
+// What a call remembers of the chunks that it located: two words for each, in an array of the call's
+// own. The places taken come first, in the order of their chunks' ids, so that
 // a chunk is found by halving whatever the ids are; a free place is 0. No chunk is forgotten while
 // there is room, and none is kept after that.
 use page::Place;
@@ -41,7 +41,7 @@ fn seek(memory: &[u64], c: u32) -> usize
     ensures { λ r. ⌜ r ≡ soughtIn (now (memory .entry)) c ⌝ }
 {
     let mut low = 0;
-    let mut high = memory.len() / 3;
+    let mut high = memory.len() / 2;
     let mut left = HALVINGS;
     while 0 < left {
         if high <= low {
@@ -62,7 +62,7 @@ fn seek(memory: &[u64], c: u32) -> usize
 pub fn recall(memory: &[u64], c: u32) -> Recalled
     ensures { λ r. ⌜ r ≡ recalledIn (now (memory .entry)) c ⌝ }
 {
-    let n = memory.len() / 3;
+    let n = memory.len() / 2;
     let i = seek(memory, c);
     if n <= i {
         return Recalled::Full;
@@ -87,7 +87,7 @@ pub fn recall(memory: &[u64], c: u32) -> Recalled
 fn insert(memory: &mut [u64], i: usize, w: u64, v: u64)
     ensures { λ _. ⌜ now (memory .exit) ≡ insertedAt (now (memory .entry)) i w v ⌝ }
 {
-    let n = memory.len() / 3;
+    let n = memory.len() / 2;
     let mut j = i;
     let mut first = w;
     let mut second = v;

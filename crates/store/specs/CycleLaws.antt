@@ -22,7 +22,8 @@ use Rattle.locating.specs.StepLaws.{page-known, empty-found, root-reached, dept
 use Rattle.opening.specs.declared.chunk.Chunk.{Chunk}
 use Rattle.page.specs.declared.Place.{Place}
 use Rattle.content.specs.Content.{Entry, pageIn}
-use Rattle.store.specs.declared.memory.Recalled.the-variants as recalled
+use Rattle.memory.specs.declared.Recalled.the-variants as recalled
+use Rattle.memory.specs.Words.{recalledIn}
 use Rattle.metadata.specs.declared.Told.{Told}
 use Rattle.metadata.specs.declared.Told.the-variants as told
 use Rattle.metadata.specs.declared.Looked.{Looked}
@@ -31,7 +32,7 @@ use Rattle.metadata.specs.declared.descent.Advance.{Advance}
 use Rattle.metadata.specs.declared.descent.Advance.the-variants.{To, Done}
 use Rattle.metadata.specs.Answers.{placeOf}
 use Rattle.store.specs.Store.{metadata, chunkKey}
-use Rattle.store.specs.Memory.{recalledIn, RightWords}
+use Rattle.store.specs.Memory.{RightWords}
 use Rattle.store.specs.Memory.{TellsOf, Sought}
 use Rattle.store.specs.MemoryLaws.{recalled-known}
 use Rattle.store.specs.SettleLaws.{settled-tells, settled-right}
@@ -68,7 +69,7 @@ module _ (image : List ℕ) (newest : Chunk) where
         let e : suc (q - 1) ≡ q = omega arith in
         rw e at (settled-tells image newest c (q - 1) other f (rw is at s))
 
-    pub tells-settled : (t : Told) (zs : List ℕ) → t ≡ settledTold image c f → zs ≡ settledWords image c ws t
+    pub tells-settled : (t : Told) (zs : List ℕ) → t ≡ settledTold image c f → zs ≡ settledWords c ws t
         → RightWords image newest zs × TellsOf image newest q c t
     tells-settled t zs e d = (rw (d, e) (settled-right image newest c q right (omega arith) f tells-by), rw e tells-by)
 

@@ -1,6 +1,6 @@
 -- Laws of locating by the metadata's answer: the chunk that it names stands, so that its place can be remembered; what is told
 -- is right, and so are the words after it.
-use Prim.Native.Nat.{ℕ, suc, _+_, _<_, _≤_}
+use Prim.Native.Nat.{ℕ, suc, _+_, _^_, _<_, _≤_}
 use mathlib.Core.Path.{_≡_, refl}
 use mathlib.Core.Bool.{Bool, true, false, cond}
 use mathlib.Core.List.{List}
@@ -22,17 +22,13 @@ use Rattle.key.specs.declared.Kind.{Kind}
 use Rattle.key.specs.declared.Kind.the-variants.{Text}
 use Rattle.key.specs.Key.{Key, text}
 use Rattle.locating.specs.StepLaws.{asked-refused, placed-refused, placed-known}
-use Rattle.store.specs.declared.memory.Recalled.{Recalled}
-use Rattle.store.specs.declared.memory.Recalled.the-variants as recalled
-use Rattle.metadata.specs.declared.Told.the-variants as told
 use Rattle.metadata.specs.declared.Looked.{Looked}
 use Rattle.metadata.specs.declared.Looked.the-variants as looked
-use Rattle.metadata.specs.Answers.{bytesAt, placeOf, standingBy}
+use Rattle.metadata.specs.Answers.{bytesAt, placeOf, standingBy, needOf}
 use Rattle.store.specs.Store.{chunkKey, metadata}
-use Rattle.store.specs.Memory.{recalledIn, RightWords, TellsOf, Sought}
-use Rattle.metadata.specs.Answers.{needOf}
-use Rattle.store.specs.Steps.{toldBy, settledTold, wordsBy, settledWords}
-use Rattle.store.specs.MemoryLaws.{Held, kept-right}
+use Rattle.store.specs.Memory.{RightWords, TellsOf, Sought}
+use Rattle.store.specs.Steps.{toldBy, settledTold, settledWords}
+use Rattle.store.specs.MemoryLaws.{remembered-right}
 
 module _ (image : List ℕ) (n : ℕ) (v : Spot) {c : Chunk} (e : standingBy image n v ≡ Stands c) where
   pub standing-stood : Stood image c
@@ -49,10 +45,8 @@ module _ (image : List ℕ) (n : ℕ) (v : Spot) {c : Chunk} (e : standingBy ima
       go true e = stands-stood image b (kept-told (hasId n) (standsAt image b) e .0)
       go false e = absurd (let z : _≡_ {A = ℕ} 0 1 = cc in omega arith)
 
-  pub standing-held : Held (placeOf c)
-  standing-held =
-      let s = standing-stood in
-      record { block-small = omega (arith, stood-most image s); first-small = omega arith }
+  pub standing-held : (c .block < 2 ^ 28) × (c .first < 2 ^ 32)
+  standing-held = let s = standing-stood in (omega (arith, stood-most image s), omega arith)
 
 -- ## After the metadata's answer
 -- an answer takes no more questions than there were
@@ -81,7 +75,7 @@ module _ (image : List ℕ) (newest : Chunk) (c q : ℕ) where
 
   module _ {ws : List ℕ} (right : RightWords image newest ws) (few : q < 16) where
     pub settled-right : (f : Looked) → TellsOf image newest q c (settledTold image c f) →
-        RightWords image newest (settledWords image c ws (settledTold image c f))
+        RightWords image newest (settledWords c ws (settledTold image c f))
     unfolding TellsOf settledTold settledWords
     settled-right (looked.Refused r) t = right
     settled-right (looked.Absent need) t = right
@@ -91,12 +85,8 @@ module _ (image : List ℕ) (newest : Chunk) (c q : ℕ) where
         v = record { at = at; len = len }
 
         go : (s : Standing) → standingBy image c v ≡ s → TellsOf image newest q c (toldBy need s) →
-            RightWords image newest (wordsBy ws c (toldBy need s) (recalledIn ws c))
+            RightWords image newest (settledWords c ws (toldBy need s))
         go Nothing e t = right
-        go (Stands k) e t = kept (recalledIn ws c)
-          where
-            kept : (o : Recalled) → RightWords image newest (wordsBy ws c (told.At (placeOf k) (need + 1)) o)
-            kept (recalled.At l m) = right
-            kept (recalled.Free i) =
-                kept-right image newest right c (placeOf k) (need + 1) (t .1) (standing-held image c v e) (omega (arith, t .0)) i
-            kept recalled.Full = right
+        go (Stands k) e t =
+            let held = standing-held image c v e in
+            remembered-right image newest right c (placeOf k) (need + 1) (held .0) (held .1) (omega (arith, t .0)) (t .1)

@@ -7,14 +7,12 @@ use mathlib.Core.List.{List}
 use Rattle.refusal.specs.Refusal.{notLocated}
 use Rattle.opening.specs.declared.chunk.Standing.{Standing}
 use Rattle.opening.specs.declared.chunk.Standing.the-variants.{Stands, Nothing}
+use Rattle.memory.specs.Words.{rememberedIn}
 use Rattle.metadata.specs.declared.Told.{Told}
 use Rattle.metadata.specs.declared.Told.the-variants as told
 use Rattle.metadata.specs.declared.Looked.{Looked}
 use Rattle.metadata.specs.declared.Looked.the-variants as looked
 use Rattle.metadata.specs.Answers.{placeOf, standingBy}
-use Rattle.store.specs.declared.memory.Recalled.{Recalled}
-use Rattle.store.specs.declared.memory.Recalled.the-variants as recalled
-use Rattle.store.specs.Memory.{recalledIn, keptAt}
 
 abbrev pub toldBy : ℕ → Standing → Told
 toldBy need Nothing = told.Refused notLocated
@@ -25,12 +23,6 @@ settledTold image n (looked.Refused r) = told.Refused r
 settledTold image n (looked.Absent need) = told.Refused notLocated
 settledTold image n (looked.Found at len need) = toldBy need (standingBy image n (record { at = at; len = len }))
 
--- kept where a place is free
-abbrev pub wordsBy : List ℕ → ℕ → Told → Recalled → List ℕ
-wordsBy ws n (told.Refused r) o = ws
-wordsBy ws n (told.At l need) (recalled.At k m) = ws
-wordsBy ws n (told.At l need) (recalled.Free i) = keptAt ws i n l need
-wordsBy ws n (told.At l need) recalled.Full = ws
-
-unfoldable pub settledWords : List ℕ → ℕ → List ℕ → Told → List ℕ
-settledWords image n ws t = wordsBy ws n t (recalledIn ws n)
+unfoldable pub settledWords : ℕ → List ℕ → Told → List ℕ
+settledWords n ws (told.Refused r) = ws
+settledWords n ws (told.At l need) = rememberedIn ws n l need

@@ -2,6 +2,7 @@
 use super::Counted;
 use super::Fetched;
 use super::QUESTIONS;
+use super::SMALL;
 use super::fetch::fetch_from;
 use super::locate::descend;
 use super::read::read_page;
@@ -19,18 +20,54 @@ ghost use Rattle.store.specs.Store.{reader};
 ghost use Rattle.store.specs.Memory.{RightWords};
 ghost use Rattle.store.specs.Asking.{lookupIn, indexIn, countIn, valueOf, fetchedOf, countedOf};
 
+fn lookup_with(
+    image: &[u8],
+    newest: Chunk,
+    memory: &mut [u64],
+    map: u32,
+    kind: Kind,
+    key: &[u8],
+) -> Value
+    requires { ⌜ RightWords (now image) newest (now memory) ⌝ }
+    ensures { λ r. ⌜ r ≡ valueOf (lookupIn (now (image .entry)) newest map kind (keyOf kind (now (key .entry)))) ⌝ }
+{
+    let r = root_at(image, newest, memory, map);
+    match r {
+        Root::Refused(r) => Value::Refused(r),
+        Root::At(p) => {
+            let f = descend(image, newest, memory, p, map, kind, key, QUESTIONS);
+            value_by(f)
+        }
+    }
+}
+
 // The value of `key` in the map.
 pub fn lookup(image: &[u8], newest: Chunk, map: u32, kind: Kind, key: &[u8]) -> Value
     ensures { λ r. ⌜ r ≡ valueOf (lookupIn (now (image .entry)) newest map kind (keyOf kind (now (key .entry)))) ⌝ }
 {
-    let mut memory = [0u64; 512];
-    let r = root_at(image, newest, &mut memory, map);
+    if image.len() < SMALL {
+        let mut memory = [0u64; 512];
+        return lookup_with(image, newest, &mut memory, map, kind, key);
+    }
+    let mut memory = [0u64; 8192];
+    lookup_with(image, newest, &mut memory, map, kind, key)
+}
+
+fn index_with(
+    image: &[u8],
+    newest: Chunk,
+    memory: &mut [u64],
+    map: u32,
+    kind: Kind,
+    index: u64,
+) -> Fetched
+    requires { ⌜ RightWords (now image) newest (now memory) ⌝ }
+    ensures { λ r. ⌜ r ≡ fetchedOf (indexIn (now (image .entry)) newest map kind index) ⌝ }
+{
+    let r = root_at(image, newest, memory, map);
     match r {
-        Root::Refused(r) => Value::Refused(r),
-        Root::At(p) => {
-            let f = descend(image, newest, &mut memory, p, map, kind, key, QUESTIONS);
-            value_by(f)
-        }
+        Root::Refused(r) => Fetched::Refused(r),
+        Root::At(p) => fetch_from(image, newest, memory, p, map, kind, index),
     }
 }
 
@@ -38,19 +75,19 @@ pub fn lookup(image: &[u8], newest: Chunk, map: u32, kind: Kind, key: &[u8]) -> 
 pub fn index(image: &[u8], newest: Chunk, map: u32, kind: Kind, index: u64) -> Fetched
     ensures { λ r. ⌜ r ≡ fetchedOf (indexIn (now (image .entry)) newest map kind index) ⌝ }
 {
-    let mut memory = [0u64; 512];
-    let r = root_at(image, newest, &mut memory, map);
-    match r {
-        Root::Refused(r) => Fetched::Refused(r),
-        Root::At(p) => fetch_from(image, newest, &mut memory, p, map, kind, index),
+    if image.len() < SMALL {
+        let mut memory = [0u64; 512];
+        return index_with(image, newest, &mut memory, map, kind, index);
     }
+    let mut memory = [0u64; 8192];
+    index_with(image, newest, &mut memory, map, kind, index)
 }
 
 // How many entries the page at the root has or records.
 fn count_from(
     image: &[u8],
     newest: Chunk,
-    memory: &mut [u64; 512],
+    memory: &mut [u64],
     root: u64,
     map: u32,
     kind: Kind,
@@ -81,14 +118,25 @@ fn count_from(
     }
 }
 
+fn count_with(image: &[u8], newest: Chunk, memory: &mut [u64], map: u32, kind: Kind) -> Counted
+    requires { ⌜ RightWords (now image) newest (now memory) ⌝ }
+    ensures { λ r. ⌜ r ≡ countedOf (countIn (now (image .entry)) newest map kind) ⌝ }
+{
+    let r = root_at(image, newest, memory, map);
+    match r {
+        Root::Refused(r) => Counted::Refused(r),
+        Root::At(p) => count_from(image, newest, memory, p, map, kind),
+    }
+}
+
 // How many entries the map has, by its root.
 pub fn count(image: &[u8], newest: Chunk, map: u32, kind: Kind) -> Counted
     ensures { λ r. ⌜ r ≡ countedOf (countIn (now (image .entry)) newest map kind) ⌝ }
 {
-    let mut memory = [0u64; 512];
-    let r = root_at(image, newest, &mut memory, map);
-    match r {
-        Root::Refused(r) => Counted::Refused(r),
-        Root::At(p) => count_from(image, newest, &mut memory, p, map, kind),
+    if image.len() < SMALL {
+        let mut memory = [0u64; 512];
+        return count_with(image, newest, &mut memory, map, kind);
     }
+    let mut memory = [0u64; 8192];
+    count_with(image, newest, &mut memory, map, kind)
 }

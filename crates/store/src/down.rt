@@ -19,7 +19,7 @@ ghost use Rattle.store.specs.WalkWays.{CameDown, CameLeft};
 pub(crate) fn down_by(
     image: &[u8],
     newest: Chunk,
-    memory: &mut [u64; 512],
+    memory: &mut [u64],
     root: u64,
     map: u32,
     kind: Kind,
@@ -75,7 +75,7 @@ pub(crate) fn down_by(
 pub(crate) fn leftmost_from(
     image: &[u8],
     newest: Chunk,
-    memory: &mut [u64; 512],
+    memory: &mut [u64],
     p: u64,
     map: u32,
     kind: Kind,

@@ -1,5 +1,6 @@
 // The examination of a map: depth first, a page's own rules before its keys, its separators before its
 // children, a child before its recorded count.
+use super::SMALL;
 use super::read::read_page;
 use super::read::root_at;
 use key::Kind;
@@ -67,7 +68,7 @@ fn over_children(x: Examined) -> Examined
 fn examine_page(
     image: &[u8],
     newest: Chunk,
-    memory: &mut [u64; 512],
+    memory: &mut [u64],
     p: u64,
     map: u32,
     kind: Kind,
@@ -120,7 +121,7 @@ fn examine_page(
 fn examine_children(
     image: &[u8],
     newest: Chunk,
-    memory: &mut [u64; 512],
+    memory: &mut [u64],
     map: u32,
     kind: Kind,
     page: Inner,
@@ -170,12 +171,11 @@ fn examine_children(
     }
 }
 
-// The examination of a map by its id and kind.
-pub fn examine(image: &[u8], newest: Chunk, map: u32, kind: Kind) -> Examined
+fn examine_with(image: &[u8], newest: Chunk, memory: &mut [u64], map: u32, kind: Kind) -> Examined
+    requires { ⌜ RightWords (now image) newest (now memory) ⌝ }
     ensures { λ r. ⌜ r ≡ examinedOf (examineIn (now (image .entry)) newest map kind) ⌝ }
 {
-    let mut memory = [0u64; 512];
-    let r = root_at(image, newest, &mut memory, map);
+    let r = root_at(image, newest, memory, map);
     match r {
         Root::Refused(r) => Examined::Refused(r),
         Root::At(p) => {
@@ -190,7 +190,19 @@ pub fn examine(image: &[u8], newest: Chunk, map: u32, kind: Kind) -> Examined
                 lo: Bound::Open,
                 hi: Bound::Open,
             };
-            examine_page(image, newest, &mut memory, p, map, kind, span, true, 16)
+            examine_page(image, newest, memory, p, map, kind, span, true, 16)
         }
     }
+}
+
+// The examination of a map by its id and kind.
+pub fn examine(image: &[u8], newest: Chunk, map: u32, kind: Kind) -> Examined
+    ensures { λ r. ⌜ r ≡ examinedOf (examineIn (now (image .entry)) newest map kind) ⌝ }
+{
+    if image.len() < SMALL {
+        let mut memory = [0u64; 512];
+        return examine_with(image, newest, &mut memory, map, kind);
+    }
+    let mut memory = [0u64; 8192];
+    examine_with(image, newest, &mut memory, map, kind)
 }

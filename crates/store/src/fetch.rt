@@ -61,7 +61,7 @@ fn turn_at(image: &[u8], kind: Kind, j: Judged, index: u64) -> Turn
 pub(crate) fn fetch_from(
     image: &[u8],
     newest: Chunk,
-    memory: &mut [u64; 512],
+    memory: &mut [u64],
     root: u64,
     map: u32,
     kind: Kind,

@@ -7,7 +7,6 @@ mod examining;
 mod fetch;
 mod keys;
 mod locate;
-mod memory;
 mod read;
 mod settle;
 mod walking;
@@ -32,6 +31,7 @@ pub use walking::advance;
 ghost use mathlib.Core.Path.{_≡_};
 ghost use Rattle.metadata.specs.Answers.{placeSaid, idSaid, rootSaid};
 ghost use Rattle.store.specs.Store.{chunkAt, namedMap, mapRoot};
+ghost use Rattle.store.specs.Memory.{RightWords};
 // An entry: its key and its value by place and length.
 pub enum Fetched {
     At {
@@ -48,6 +48,11 @@ pub enum Counted {
     Refused(Refusal),
 }
 
+// An image below so many bytes has no more than 256 blocks, and so no more chunks than a memory of 512
+// words has room for. One of 8,192 has room for the chunks of any image of 16 MB. A public function
+// clears one of the two, since clearing takes time, and lends it to what does the work.
+pub const SMALL: usize = 1048576;
+
 // How many questions may be open at once.
 pub const QUESTIONS: u32 = 8;
 
@@ -58,12 +63,16 @@ pub const NAME: usize = 1000;
 pub fn chunk_place(image: &[u8], newest: Chunk, chunk: u32) -> Located
     ensures { λ r. ⌜ placeSaid r ≡ chunkAt (now (image .entry)) newest 8 chunk ⌝ }
 {
-    let mut memory = [0u64; 512];
+    if image.len() < SMALL {
+        let mut memory = [0u64; 512];
+        return located_by(locate(image, newest, &mut memory, chunk, QUESTIONS));
+    }
+    let mut memory = [0u64; 8192];
     located_by(locate(image, newest, &mut memory, chunk, QUESTIONS))
 }
 
-// The id of the map that has a name.
-pub fn map_id(image: &[u8], newest: Chunk, name: &[u8]) -> Id
+fn named_with(image: &[u8], newest: Chunk, memory: &mut [u64], name: &[u8]) -> Id
+    requires { ⌜ RightWords (now image) newest (now memory) ⌝ }
     ensures { λ r. ⌜ idSaid r ≡ namedMap (now (image .entry)) newest (now (name .entry)) ⌝ }
 {
     if NAME < name.len() {
@@ -71,11 +80,10 @@ pub fn map_id(image: &[u8], newest: Chunk, name: &[u8]) -> Id
     }
     let mut key = [0u8; 1024];
     let n = name_key(&mut key, name);
-    let mut memory = [0u64; 512];
     let f = descend(
         image,
         newest,
-        &mut memory,
+        memory,
         newest.root,
         0,
         Kind::Text,
@@ -85,10 +93,26 @@ pub fn map_id(image: &[u8], newest: Chunk, name: &[u8]) -> Id
     id_by(image, f)
 }
 
+// The id of the map that has a name.
+pub fn map_id(image: &[u8], newest: Chunk, name: &[u8]) -> Id
+    ensures { λ r. ⌜ idSaid r ≡ namedMap (now (image .entry)) newest (now (name .entry)) ⌝ }
+{
+    if image.len() < SMALL {
+        let mut memory = [0u64; 512];
+        return named_with(image, newest, &mut memory, name);
+    }
+    let mut memory = [0u64; 8192];
+    named_with(image, newest, &mut memory, name)
+}
+
 // The root of the map that has an id; the metadata is map 0.
 pub fn map_root(image: &[u8], newest: Chunk, map: u32) -> Root
     ensures { λ r. ⌜ rootSaid r ≡ mapRoot (now (image .entry)) newest map ⌝ }
 {
-    let mut memory = [0u64; 512];
+    if image.len() < SMALL {
+        let mut memory = [0u64; 512];
+        return root_at(image, newest, &mut memory, map);
+    }
+    let mut memory = [0u64; 8192];
     root_at(image, newest, &mut memory, map)
 }

@@ -1,10 +1,9 @@
 // Locating a chunk and a descent, which ask each other. What was located is remembered in an array
 // that the caller lends; `q` is how many questions may still be opened.
 use super::keys::number_key;
-use super::memory::Recalled;
-use super::memory::recall;
 use super::settle::settle;
 use key::Kind;
+use memory::Recalled;
 use metadata::Advance;
 use metadata::Looked;
 use metadata::Told;
@@ -20,7 +19,7 @@ ghost use Rattle.store.specs.Memory.{RightWords, TellsOf, Sought};
 
 // Where chunk `c` is. The newest is known, others may be remembered; any other is asked for in the
 // metadata, which is one more open question.
-pub(crate) fn locate(image: &[u8], newest: Chunk, memory: &mut [u64; 512], c: u32, q: u32) -> Told
+pub(crate) fn locate(image: &[u8], newest: Chunk, memory: &mut [u64], c: u32, q: u32) -> Told
     requires { ⌜ (q ≤ 8) × RightWords (now image) newest (now memory) ⌝ }
     ensures { λ r. ⌜ RightWords (now (image .entry)) newest (now (memory .exit)) × TellsOf (now (image .entry)) newest q c r ⌝ }
 {
@@ -30,7 +29,7 @@ pub(crate) fn locate(image: &[u8], newest: Chunk, memory: &mut [u64; 512], c: u3
             need: 0,
         };
     }
-    let r = recall(memory, c);
+    let r = memory::recall(memory, c);
     if let Recalled::At { place, need } = r {
         if q < need {
             return Told::Refused(Refusal::new(Refusal::NINTH_QUESTION));
@@ -59,7 +58,7 @@ pub(crate) fn locate(image: &[u8], newest: Chunk, memory: &mut [u64; 512], c: u3
 pub(crate) fn descend(
     image: &[u8],
     newest: Chunk,
-    memory: &mut [u64; 512],
+    memory: &mut [u64],
     root: u64,
     map: u32,
     kind: Kind,

@@ -22,7 +22,7 @@ ghost use Rattle.store.specs.Asking.{judgedBy};
 pub(crate) fn read_page(
     image: &[u8],
     newest: Chunk,
-    memory: &mut [u64; 512],
+    memory: &mut [u64],
     p: u64,
     map: u32,
     kind: Kind,
@@ -42,7 +42,7 @@ pub(crate) fn read_page(
 }
 
 // The root of the map that has an id; the metadata is map 0.
-pub(crate) fn root_at(image: &[u8], newest: Chunk, memory: &mut [u64; 512], map: u32) -> Root
+pub(crate) fn root_at(image: &[u8], newest: Chunk, memory: &mut [u64], map: u32) -> Root
     requires { ⌜ RightWords (now image) newest (now memory) ⌝ }
     ensures { λ r. ⌜ RightWords (now (image .entry)) newest (now (memory .exit)) × (rootSaid r ≡ mapRoot (now (image .entry)) newest map) ⌝ }
 {

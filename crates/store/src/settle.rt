@@ -1,5 +1,4 @@
 // What the metadata's answer for a chunk says of where the chunk stands.
-use super::memory::remember;
 use metadata::Looked;
 use metadata::Told;
 use metadata::place_of;
@@ -12,9 +11,9 @@ ghost use Rattle.metadata.specs.Answers.{needOf};
 ghost use Rattle.store.specs.Steps.{settledTold, settledWords};
 
 // What the metadata's answer says of chunk `n`; where the chunk stands, it is remembered.
-pub(crate) fn settle(image: &[u8], memory: &mut [u64; 512], n: u32, f: Looked) -> Told
+pub(crate) fn settle(image: &[u8], memory: &mut [u64], n: u32, f: Looked) -> Told
     requires { ⌜ needOf f ≤ 7 ⌝ }
-    ensures { λ r. ⌜ (r ≡ settledTold (now (image .entry)) n f) × (now (memory .exit) ≡ settledWords (now (image .entry)) n (now (memory .entry)) r) ⌝ }
+    ensures { λ r. ⌜ (r ≡ settledTold (now (image .entry)) n f) × (now (memory .exit) ≡ settledWords n (now (memory .entry)) r) ⌝ }
 {
     match f {
         Looked::Refused(r) => Told::Refused(r),
@@ -25,7 +24,7 @@ pub(crate) fn settle(image: &[u8], memory: &mut [u64; 512], n: u32, f: Looked) -
                 return Told::Refused(Refusal::new(Refusal::NOT_LOCATED));
             };
             let place = place_of(c);
-            remember(memory, n, place, need + 1);
+            memory::remember(memory, n, place, need + 1);
             Told::At {
                 place,
                 need: need + 1,

@@ -1,4 +1,5 @@
 // One step of the walk in a store that is open.
+use super::SMALL;
 use super::down::down_by;
 use super::down::leftmost_from;
 use super::read::root_at;
@@ -23,7 +24,7 @@ ghost use Rattle.store.specs.Walk.{stepIn};
 fn advance_from(
     image: &[u8],
     newest: Chunk,
-    memory: &mut [u64; 512],
+    memory: &mut [u64],
     root: u64,
     map: u32,
     kind: Kind,
@@ -72,14 +73,32 @@ fn advance_from(
     }
 }
 
+fn advance_with(
+    image: &[u8],
+    newest: Chunk,
+    memory: &mut [u64],
+    map: u32,
+    kind: Kind,
+    w: Walk,
+) -> Stepped
+    requires { ⌜ RightWords (now image) newest (now memory) ⌝ }
+    ensures { λ r. ⌜ r ≡ stepIn (now (image .entry)) newest map kind w ⌝ }
+{
+    let r = root_at(image, newest, memory, map);
+    match r {
+        Root::Refused(r) => w.refused(r),
+        Root::At(p) => advance_from(image, newest, memory, p, map, kind, w),
+    }
+}
+
 // One step of the walk of a map, by its id and kind.
 pub fn advance(image: &[u8], newest: Chunk, map: u32, kind: Kind, w: Walk) -> Stepped
     ensures { λ r. ⌜ r ≡ stepIn (now (image .entry)) newest map kind w ⌝ }
 {
-    let mut memory = [0u64; 512];
-    let r = root_at(image, newest, &mut memory, map);
-    match r {
-        Root::Refused(r) => w.refused(r),
-        Root::At(p) => advance_from(image, newest, &mut memory, p, map, kind, w),
+    if image.len() < SMALL {
+        let mut memory = [0u64; 512];
+        return advance_with(image, newest, &mut memory, map, kind, w);
     }
+    let mut memory = [0u64; 8192];
+    advance_with(image, newest, &mut memory, map, kind, w)
 }

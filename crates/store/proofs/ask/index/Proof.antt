@@ -1,36 +1,27 @@
-use mathlib.Core.Path.{_∙_}
-use denote.Ref.{now}
 use Rattle.store.specs.MemoryLaws.{empty-right}
-use Rattle.store.specs.AskLaws.{index-rooted, index-rootless}
 use borrow.Author.Needs.{needs}
 use Rattle.store.proofs.ask.index.Statement.{statement}
 use Rattle.store.proofs.ask.index.Tie as tie
 
-root-at-requires : tie.Need-root-at-requires
-root-at-requires c κs = empty-right _ _
-
-fetch-from-requires : tie.Need-fetch-from-requires
-fetch-from-requires c κs = c .before .before .before .before .root-at .ensures .0
+index-with-requires : tie.Need-index-with-requires
+index-with-requires c κs = empty-right _ _ 512
 
 returns : tie.Need-returns
-returns c =
-    let a = c .before .before .before .before .before .before .args in
-    let r = c .before .before .before .root-at in
-    index-rootless (now (a .image)) (a .newest) (a .map) (a .kind) (r .result) (r .ensures .1) (c .before .r .given .1) (a .index)
+returns c = c .before .index-with .ensures
+
+index-with-requires-2 : tie.Need-index-with-requires-2
+index-with-requires-2 c κs = empty-right _ _ 8192
 
 returns-2 : tie.Need-returns-2
-returns-2 c =
-    let a = c .before .before .before .before .before .before .before .before .args in
-    let r = c .before .before .before .before .before .root-at in
-    c .fetch-from .ensures ∙ index-rooted (now (a .image)) (a .newest) (a .map) (a .kind) (r .result) (r .ensures .1) (c .before .before .before .r2 .given .1) (a .index)
+returns-2 c = c .before .index-with2 .ensures
 
 pub index-spec : {M : Type 1} → statement M
 index-spec =
     tie.close
     (tie.spec
-    root-at-requires
     (λ c. search needs)
-    (λ c. search needs)
-    fetch-from-requires
+    index-with-requires
     returns
+    (λ c. search needs)
+    index-with-requires-2
     returns-2)

@@ -1,5 +1,6 @@
 use Prim.Native.Nat.{_-_, _≤_}
 use denote.Ref.{now}
+use mathlib.Core.Path.{_≡_, refl}
 use mathlib.Core.Logic.{⊎-elim}
 use native.Mathlib.Omega.{arith}
 use lib.ListN.{length}
@@ -12,18 +13,20 @@ use Rattle.store.proofs.down.down_by.Tie as tie
 
 abbrev Inv-loop : tie.InvT-loop
 Inv-loop image newest memory₀ root map kind depth places p₀ level₀ found₀ number₀ next₀ memory p level found number next =
-    RightWords image newest memory × Going image newest map kind places depth root level p found number next
+    RightWords image newest memory × Going image newest map kind places depth root level p found number next ×
+    (length memory ≡ length memory₀)
 
 abbrev μ-loop : tie.MeasureT-loop
 μ-loop image newest memory₀ root map kind depth places p₀ level₀ found₀ number₀ next₀ memory p level found number next = depth - level
 
 loop-holds : tie.Need-loop-holds Inv-loop μ-loop
 loop-holds c =
-    let a = c .before .args in
-    let pre = c .before .pre in (
+    let a = c .before .before .args in
+    let pre = c .before .before .pre in (
       pre .3,
       going-root (now (a .image)) (a .newest) (a .map) (a .kind) (a .t7) (a .depth) (a .root) (omega arith) (omega arith) (omega arith)
           (omega arith) 0 0,
+      refl,
     )
 
 read-page-requires : tie.Need-read-page-requires Inv-loop μ-loop
@@ -31,11 +34,11 @@ read-page-requires c κs = c .before .before .loop .inv .0
 
 returns : tie.Need-returns Inv-loop μ-loop
 returns c =
-    let a = c .before .before .before .before .before .before .before .before .before .args in
+    let a = c .before .before .before .before .before .before .before .before .before .before .before .before .args in
     let few : a .depth ≤ length (a .t7) = omega arith in
     let most : a .depth ≤ 16 = omega arith in
-    let l = c .before .before .before .before .before .before .before .loop in
-    let r = c .before .before .before .before .read-page in
+    let l = c .before .before .before .before .before .before .before .before .before .loop in
+    let r = c .before .before .before .before .before .before .read-page in
     let after-at = c .before .before .before .after-at in
     let found = c .before .a in (
       r .ensures .0,
@@ -43,13 +46,15 @@ returns c =
           (r .ensures .1) (after-at .ensures) (found .given .1),
     )
 
-add-t33 : tie.Need-add-t33 Inv-loop μ-loop
-add-t33 c =
-    let a = c .before .before .before .before .before .before .before .before .before .args in
-    let few : a .depth ≤ length (a .t7) = omega arith in
-    let most : a .depth ≤ 16 = omega arith in
-    let l = c .before .before .before .before .before .before .before .loop in
-    let r = c .before .before .before .before .read-page in
+add-t34 : tie.Need-add-t34 Inv-loop μ-loop
+add-t34 c =
+    let s = c .before .before .before .before .before .before .before .before .before .before .before .before in
+    let a = s .args in
+    let sixteen = s .good .1 .1 .1 .1 .1 .1 .0 .1 .0 .1 in
+    let few : a .depth ≤ length (a .t7) = omega (arith, s .pre .1, sixteen) in
+    let most : a .depth ≤ 16 = s .pre .1 in
+    let l = c .before .before .before .before .before .before .before .before .before .loop in
+    let r = c .before .before .before .before .before .before .read-page in
     let after-at = c .before .before .before .after-at in
     let a2 = c .before .a2 in
     omega (
@@ -60,11 +65,13 @@ add-t33 c =
 
 returns-2 : tie.Need-returns-2 Inv-loop μ-loop
 returns-2 c =
-    let a = c .before .before .before .before .before .before .before .before .before .args in
-    let few : a .depth ≤ length (a .t7) = omega arith in
-    let most : a .depth ≤ 16 = omega arith in
-    let l = c .before .before .before .before .before .before .before .loop in
-    let r = c .before .before .before .before .read-page in
+    let s = c .before .before .before .before .before .before .before .before .before .before .before .before in
+    let a = s .args in
+    let sixteen = s .good .1 .1 .1 .1 .1 .1 .0 .1 .0 .1 in
+    let few : a .depth ≤ length (a .t7) = omega (arith, s .pre .1, sixteen) in
+    let most : a .depth ≤ 16 = s .pre .1 in
+    let l = c .before .before .before .before .before .before .before .before .before .loop in
+    let r = c .before .before .before .before .before .before .read-page in
     let after-at = c .before .before .before .after-at in
     let a2 = c .before .a2 in (
       r .ensures .0,
@@ -74,11 +81,11 @@ returns-2 c =
 
 returns-3 : tie.Need-returns-3 Inv-loop μ-loop
 returns-3 c =
-    let a = c .before .before .before .before .before .before .before .before .before .args in
+    let a = c .before .before .before .before .before .before .before .before .before .before .before .before .args in
     let few : a .depth ≤ length (a .t7) = omega arith in
     let most : a .depth ≤ 16 = omega arith in
-    let l = c .before .before .before .before .before .before .before .loop in
-    let r = c .before .before .before .before .read-page in
+    let l = c .before .before .before .before .before .before .before .before .before .loop in
+    let r = c .before .before .before .before .before .before .read-page in
     let after-at = c .before .before .before .after-at in
     let enum-told = c .before .enum-told in
     let over-at = c .over-at in (
@@ -89,11 +96,11 @@ returns-3 c =
 
 add-number : tie.Need-add-number Inv-loop μ-loop
 add-number c =
-    let a = c .before .before .before .before .before .before .before .before .before .args in
+    let a = c .before .before .before .before .before .before .before .before .before .before .before .before .args in
     let few : a .depth ≤ length (a .t7) = omega arith in
     let most : a .depth ≤ 16 = omega arith in
-    let l = c .before .before .before .before .before .before .before .loop in
-    let r = c .before .before .before .before .read-page in
+    let l = c .before .before .before .before .before .before .before .before .before .loop in
+    let r = c .before .before .before .before .before .before .read-page in
     let after-at = c .before .before .before .after-at in
     let a4 = c .before .a4 in
     omega (
@@ -104,11 +111,11 @@ add-number c =
 
 loop-again : tie.Need-loop-again Inv-loop μ-loop
 loop-again c =
-    let a = c .before .before .before .before .before .before .before .args in
+    let a = c .before .before .before .before .before .before .before .before .before .before .args in
     let few : a .depth ≤ length (a .t7) = omega arith in
     let most : a .depth ≤ 16 = omega arith in
-    let l = c .before .before .before .before .before .loop in
-    let r = c .before .before .read-page in
+    let l = c .before .before .before .before .before .before .before .loop in
+    let r = c .before .before .before .before .read-page in
     let after-at = c .before .after-at in
     let branch = c .match in (
       r .ensures .0,
@@ -120,6 +127,7 @@ loop-again c =
           (going-child (now (a .image)) (a .newest) (a .map) (a .kind) (a .t7) (a .depth) (a .root) few most (l .inv .1)
           (r .ensures .1) (after-at .ensures) (w .1 .given .1)))
           (branch .came),
+      search needs,
     )
 
 returns-4 : tie.Need-returns-4 Inv-loop μ-loop
@@ -139,12 +147,15 @@ down-by-spec =
     (λ c. search needs)
     (λ c κs. search needs)
     (λ c. search needs)
+    (λ c. search needs)
     returns
     (λ c. search needs)
-    add-t33
+    add-t34
+    (λ c. search needs)
     returns-2
     (λ c. search needs)
     (λ c κs. search needs)
+    (λ c. search needs)
     returns-3
     (λ c. search needs)
     (λ c. search needs)
@@ -153,4 +164,5 @@ down-by-spec =
     (λ c. search needs)
     (λ c. search needs)
     loop-again
+    (λ c. search needs)
     returns-4)

@@ -1,5 +1,7 @@
 use Prim.Native.Nat.{_-_}
 use denote.Ref.{now}
+use lib.ListN.{length}
+use mathlib.Core.Path.{_≡_, refl}
 use mathlib.Core.Logic.{⊎-elim}
 use native.Mathlib.Omega.{arith}
 use Rattle.store.specs.Memory.{RightWords}
@@ -11,25 +13,26 @@ use Rattle.store.proofs.down.leftmost_from.Tie as tie
 
 abbrev Inv-loop : tie.InvT-loop
 Inv-loop image newest memory₀ p map kind level q₀ depth₀ memory q depth =
-    RightWords image newest memory × Lefting image newest map kind level p depth q
+    RightWords image newest memory × Lefting image newest map kind level p depth q ×
+    (length memory ≡ length memory₀)
 
 abbrev μ-loop : tie.MeasureT-loop
 μ-loop image newest memory₀ p map kind level q₀ depth₀ memory q depth = 16 - depth
 
 loop-holds : tie.Need-loop-holds Inv-loop μ-loop
 loop-holds c =
-    let a = c .before .args in
-    let pre = c .before .pre in
-    (pre .1, lefting-start (now (a .image)) (a .newest) (a .map) (a .kind) (a .level) (a .p) (pre .0))
+    let a = c .before .before .args in
+    let pre = c .before .before .pre in
+    (pre .1, lefting-start (now (a .image)) (a .newest) (a .map) (a .kind) (a .level) (a .p) (pre .0), refl)
 
 read-page-requires : tie.Need-read-page-requires Inv-loop μ-loop
 read-page-requires c κs = c .before .before .loop .inv .0
 
 returns : tie.Need-returns Inv-loop μ-loop
 returns c =
-    let a = c .before .before .before .before .before .before .before .before .before .args in
-    let l = c .before .before .before .before .before .before .before .loop in
-    let r = c .before .before .before .before .read-page in
+    let a = c .before .before .before .before .before .before .before .before .before .before .before .before .args in
+    let l = c .before .before .before .before .before .before .before .before .before .loop in
+    let r = c .before .before .before .before .before .before .read-page in
     let first-at = c .before .before .before .first-at in
     let found = c .before .a in (
       r .ensures .0,
@@ -39,9 +42,9 @@ returns c =
 
 returns-2 : tie.Need-returns-2 Inv-loop μ-loop
 returns-2 c =
-    let a = c .before .before .before .before .before .before .before .before .before .args in
-    let l = c .before .before .before .before .before .before .before .loop in
-    let r = c .before .before .before .before .read-page in
+    let a = c .before .before .before .before .before .before .before .before .before .before .before .before .args in
+    let l = c .before .before .before .before .before .before .before .before .before .loop in
+    let r = c .before .before .before .before .before .before .read-page in
     let first-at = c .before .before .before .first-at in
     let a2 = c .before .a2 in (
       r .ensures .0,
@@ -51,9 +54,9 @@ returns-2 c =
 
 returns-3 : tie.Need-returns-3 Inv-loop μ-loop
 returns-3 c =
-    let a = c .before .before .before .before .before .before .before .before .before .args in
-    let l = c .before .before .before .before .before .before .before .loop in
-    let r = c .before .before .before .before .read-page in
+    let a = c .before .before .before .before .before .before .before .before .before .before .before .before .args in
+    let l = c .before .before .before .before .before .before .before .before .before .loop in
+    let r = c .before .before .before .before .before .before .read-page in
     let first-at = c .before .before .before .first-at in
     let enum-told = c .before .enum-told in
     let if1 = c .if1 in (
@@ -64,9 +67,9 @@ returns-3 c =
 
 returns-4 : tie.Need-returns-4 Inv-loop μ-loop
 returns-4 c =
-    let a = c .before .before .before .before .before .before .before .before .before .before .args in
-    let l = c .before .before .before .before .before .before .before .before .loop in
-    let r = c .before .before .before .before .before .read-page in
+    let a = c .before .before .before .before .before .before .before .before .before .before .before .before .before .args in
+    let l = c .before .before .before .before .before .before .before .before .before .before .loop in
+    let r = c .before .before .before .before .before .before .before .read-page in
     let first-at = c .before .before .before .before .first-at in
     let enum-told = c .before .before .enum-told in
     let if1 = c .before .if1 in
@@ -78,9 +81,9 @@ returns-4 c =
 
 loop-again : tie.Need-loop-again Inv-loop μ-loop
 loop-again c =
-    let a = c .before .before .before .before .before .before .before .args in
-    let l = c .before .before .before .before .before .loop in
-    let r = c .before .before .read-page in
+    let a = c .before .before .before .before .before .before .before .before .before .before .args in
+    let l = c .before .before .before .before .before .before .before .loop in
+    let r = c .before .before .before .before .read-page in
     let first-at = c .before .first-at in
     let branch = c .match in (
       r .ensures .0,
@@ -92,11 +95,12 @@ loop-again c =
           (lefting-child (now (a .image)) (a .newest) (a .map) (a .kind) (l .inv .1) (omega arith) (r .ensures .1) (first-at .ensures)
           (w .1 .given .1)))
           (branch .came),
+      search needs,
     )
 
 returns-5 : tie.Need-returns-5 Inv-loop μ-loop
 returns-5 c =
-    let a = c .before .before .before .before .args in
+    let a = c .before .before .before .before .before .args in
     let l = c .before .before .loop in
     let new2 = c .new2 in
     (l .inv .0, lefting-deep (now (a .image)) (a .newest) (a .map) (a .kind) (l .inv .1) (omega arith) (new2 .ensures))
@@ -111,13 +115,17 @@ leftmost-from-spec =
     read-page-requires
     (λ c κs. search needs)
     (λ c. search needs)
+    (λ c. search needs)
     returns
+    (λ c. search needs)
     (λ c. search needs)
     (λ c. search needs)
     returns-2
     (λ c. search needs)
+    (λ c. search needs)
     returns-3
     (λ c κs. search needs)
+    (λ c. search needs)
     returns-4
     (λ c. search needs)
     (λ c. search needs)
@@ -125,4 +133,5 @@ leftmost-from-spec =
     (λ c. search needs)
     loop-again
     (λ c κs. search needs)
+    (λ c. search needs)
     returns-5)

@@ -1,41 +1,27 @@
-use mathlib.Core.Path.{_∙_}
-use denote.Ref.{now}
 use Rattle.store.specs.MemoryLaws.{empty-right}
-use Rattle.store.specs.ExamineLaws.{map-refused, map-empty, map-examined}
 use borrow.Author.Needs.{needs}
 use Rattle.store.proofs.examining.examine.Statement.{statement}
 use Rattle.store.proofs.examining.examine.Tie as tie
 
-root-at-requires : tie.Need-root-at-requires
-root-at-requires c κs = empty-right _ _
+examine-with-requires : tie.Need-examine-with-requires
+examine-with-requires c κs = empty-right _ _ 512
 
 returns : tie.Need-returns
-returns c =
-    let a = c .before .before .before .before .before .before .before .args in
-    let r = c .before .before .before .before .root-at in
-    map-empty (now (a .image)) (a .newest) (a .map) (a .kind) (r .result) (r .ensures .1) (c .before .before .r2 .given .1) (c .if1 .taken)
+returns c = c .before .examine-with .ensures
+
+examine-with-requires-2 : tie.Need-examine-with-requires-2
+examine-with-requires-2 c κs = empty-right _ _ 8192
 
 returns-2 : tie.Need-returns-2
-returns-2 c =
-    let a = c .before .before .before .before .before .before .args in
-    let r = c .before .before .before .root-at in
-    map-refused (now (a .image)) (a .newest) (a .map) (a .kind) (r .result) (r .ensures .1) (c .before .r .given .1)
-
-returns-3 : tie.Need-returns-3
-returns-3 c =
-    let a = c .before .before .before .before .before .before .before .before .before .args in
-    let r = c .before .before .before .before .before .before .root-at in
-    c .examine-page .ensures .1 ∙ map-examined (now (a .image)) (a .newest) (a .map) (a .kind) (r .result) (r .ensures .1)
-    (c .before .before .before .before .r2 .given .1) (c .before .before .if1 .left)
+returns-2 c = c .before .examine-with2 .ensures
 
 pub examine-spec : {M : Type 1} → statement M
 examine-spec =
     tie.close
     (tie.spec
-    root-at-requires
     (λ c. search needs)
-    (λ c. search needs)
+    examine-with-requires
     returns
-    (λ c κs. search needs)
-    returns-2
-    returns-3)
+    (λ c. search needs)
+    examine-with-requires-2
+    returns-2)

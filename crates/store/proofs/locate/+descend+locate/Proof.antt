@@ -1,7 +1,8 @@
 use Prim.Native.Nat.{ℕ, _+_, _*_, _-_, _<_}
-use mathlib.Core.Path.{_≡_, sym, _∙_}
+use mathlib.Core.Path.{_≡_, refl, sym, _∙_}
 use native.Mathlib.Omega.{arith}
 use denote.Ref.{now}
+use lib.ListN.{length}
 use lib.Seq.{length-take-le}
 use borrow.Author.Needs.{needs}
 use Rattle.key.specs.Key.{keyOf}
@@ -20,7 +21,7 @@ use Rattle.store.proofs.locate.+descend+locate.Lts-locate as locate-lts
 use Rattle.position.proofs.Position.chunk.Reads as chunk-reads
 use Rattle.refusal.proofs.Refusal.new.Reads as new-reads
 use Rattle.store.proofs.keys.number_key.Reads as number-key-reads
-use Rattle.store.proofs.memory.recall.Reads as recall-reads
+use Rattle.memory.proofs.recall.Reads as recall-reads
 use Rattle.metadata.proofs.place_of.Reads as place-of-reads
 use Rattle.store.proofs.settle.settle.Reads as settle-reads
 use Rattle.metadata.proofs.advance_at.Reads as advance-at-reads
@@ -47,7 +48,8 @@ locate-below t = and 2 locate-kinds.ps (falls 2 locate-kinds.ps _<_ μ-locate t)
 
 abbrev descend-Inv-loop : descend-lts.InvT-loop
 descend-Inv-loop image newest memory₀ root map kind key q p₀ need₀ left₀ memory p need left =
-    RightWords image newest memory × Came image newest map kind root (keyOf kind key) q need left p
+    RightWords image newest memory × Came image newest map kind root (keyOf kind key) q need left p ×
+    (length memory ≡ length memory₀)
 
 abbrev descend-μ-loop : descend-lts.MeasureT-loop
 descend-μ-loop image newest memory₀ root map kind key q p₀ need₀ left₀ memory p need left = left
@@ -77,34 +79,37 @@ descend-meets t = descend-lts.spec (
     descend-Inv-loop
     descend-μ-loop
     (λ c.
-    let a = c .before .before .before .args in
-    (c .before .before .before .pre .1 .1, sought-empty (now (a .image)) (a .newest) (a .map) (a .kind) (a .root) (keyOf (a .kind) (now (a .key))) (a .q) (c .if1 .taken)))
+    let a = c .before .before .before .before .args in
+    (c .before .before .before .before .pre .1 .1, sought-empty (now (a .image)) (a .newest) (a .map) (a .kind) (a .root) (keyOf (a .kind) (now (a .key))) (a .q) (c .if1 .taken)))
     (λ c.
-    let a = c .before .before .before .args in
-    (c .before .before .before .pre .1 .1, came-root (now (a .image)) (a .newest) (a .map) (a .kind) (a .root) (keyOf (a .kind) (now (a .key))) (a .q) (c .if1 .left)))
+    let a = c .before .before .before .before .args in
+    (c .before .before .before .before .pre .1 .1, came-root (now (a .image)) (a .newest) (a .map) (a .kind) (a .root) (keyOf (a .kind) (now (a .key))) (a .q) (c .if1 .left), refl))
     (λ c κs. search needs)
+    (λ c. search needs)
     (λ c.
-    let a = c .before .before .before .before .before .before .before .args in
+    let a = c .before .before .before .before .before .before .before .before .args in
     let l = c .before .before .before .loop in
     (l .inv .0, sought-zero (now (a .image)) (a .newest) (a .map) (a .kind) (a .root) (keyOf (a .kind) (now (a .key))) (a .q) (l .left) (l .p) (omega arith) (c .before .if2 .taken) (l .inv .1) (c .new .ensures)))
     (λ c κs. search needs)
-    (λ c κs. (omega (arith, c .before .before .before .before .before .before .before .before .pre .0), (omega (arith, c .before .before .before .before .before .before .before .before .pre .1 .0), c .before .before .before .before .loop .inv .0)))
+    (λ c κs. (omega (arith, c .before .before .before .before .before .before .before .before .before .pre .0), (omega (arith, c .before .before .before .before .before .before .before .before .before .pre .1 .0), c .before .before .before .before .loop .inv .0)))
     (λ c κs. search needs)
     (λ c. search needs)
     (λ c. search needs)
+    (λ c. search needs)
     (λ c.
-    let a = c .before .before .before .before .before .before .before .before .before .before .before .before .before .args in
-    let l = c .before .before .before .before .before .before .before .before .before .loop in
-    (c .before .before .before .before .locate .ensures .0, sought-done (now (a .image)) (a .newest) (a .map) (a .kind) (a .root) (keyOf (a .kind) (now (a .key))) (a .q) (l .need) (l .left) (l .p) _ (c .before .before .before .before .locate .result) (c .before .before .before .advance-at .result) (omega arith) (c .before .before .before .before .before .before .before .if2 .left) (l .inv .1) (c .before .before .before .before .before .chunk .ensures) (c .before .before .before .before .locate .ensures .1) (c .before .before .before .advance-at .ensures) (c .before .a2 .given .1)))
+    let a = c .before .before .before .before .before .before .before .before .before .before .before .before .before .before .before .before .args in
+    let l = c .before .before .before .before .before .before .before .before .before .before .before .loop in
+    (c .before .before .before .before .before .before .locate .ensures .0, sought-done (now (a .image)) (a .newest) (a .map) (a .kind) (a .root) (keyOf (a .kind) (now (a .key))) (a .q) (l .need) (l .left) (l .p) _ (c .before .before .before .before .before .before .locate .result) (c .before .before .before .advance-at .result) (omega arith) (c .before .before .before .before .before .before .before .before .before .if2 .left) (l .inv .1) (c .before .before .before .before .before .before .before .chunk .ensures) (c .before .before .before .before .before .before .locate .ensures .1) (c .before .before .before .advance-at .ensures) (c .before .a2 .given .1)))
     (λ c. search needs)
     (λ c. search needs)
     (λ c.
-    let a = c .before .before .before .before .before .before .before .before .before .before .before .before .before .args in
-    let l = c .before .before .before .before .before .before .before .before .before .loop in
-    (c .before .before .before .before .locate .ensures .0, came-on (now (a .image)) (a .newest) (a .map) (a .kind) (a .root) (keyOf (a .kind) (now (a .key))) (a .q) (l .need) (l .left) (l .p) _ (c .before .before .before .before .locate .result) (c .before .before .before .advance-at .result) (omega arith) (c .before .before .before .before .before .before .before .if2 .left) (l .inv .1) (c .before .before .before .before .before .chunk .ensures) (c .before .before .before .before .locate .ensures .1) (c .before .before .before .advance-at .ensures) (c .before .a .given .1)))
+    let a = c .before .before .before .before .before .before .before .before .before .before .before .before .before .before .before .before .args in
+    let l = c .before .before .before .before .before .before .before .before .before .before .before .loop in
+    (c .before .before .before .before .before .before .locate .ensures .0, came-on (now (a .image)) (a .newest) (a .map) (a .kind) (a .root) (keyOf (a .kind) (now (a .key))) (a .q) (l .need) (l .left) (l .p) _ (c .before .before .before .before .before .before .locate .result) (c .before .before .before .advance-at .result) (omega arith) (c .before .before .before .before .before .before .before .before .before .if2 .left) (l .inv .1) (c .before .before .before .before .before .before .before .chunk .ensures) (c .before .before .before .before .before .before .locate .ensures .1) (c .before .before .before .advance-at .ensures) (c .before .a .given .1), search needs))
     (λ c κs. search needs)
+    (λ c. search needs)
     (λ c.
-    let a = c .before .before .before .before .before .before .args in
+    let a = c .before .before .before .before .before .before .before .args in
     let l = c .before .before .loop in
     (l .inv .0, sought-deep (now (a .image)) (a .newest) (a .map) (a .kind) (a .root) (keyOf (a .kind) (now (a .key))) (a .q) (l .left) (omega arith) (l .inv .1) (c .new2 .ensures)))
 
@@ -140,36 +145,40 @@ locate-meets t = locate-lts.spec (
     locate.Post
     (λ c κs. search needs)
     (λ c.
-    let a = c .before .before .before .before .args in
-    (c .before .before .before .before .pre .1 .1, tells-newest (now (a .image)) (a .newest) (a .q) (a .c) (c .before .if1 .taken) (c .place-of .result) (c .place-of .ensures)))
+    let a = c .before .before .before .before .before .args in
+    (c .before .before .before .before .before .pre .1 .1, tells-newest (now (a .image)) (a .newest) (a .q) (a .c) (c .before .if1 .taken) (c .place-of .result) (c .place-of .ensures)))
     (λ c κs. search needs)
     (λ c. search needs)
     (λ c κs. search needs)
+    (λ c. search needs)
+    (λ c.
+    let a = c .before .before .before .before .before .before .before .before .before .before .before .args in
+    let g = c .before .before .before .before .before .before .before .before .before .before .before .pre .1 .1 in
+    (g, tells-few (now (a .image)) (a .newest) (a .q) (a .c) g (sym (c .before .before .before .before .before .recall .ensures) ∙ c .before .before .before .r .given .1) (omega (arith, c .before .if2 .taken, c .before .before .before .before .before .before .before .before .before .before .before .pre .1 .0)) (c .new .ensures)))
+    (λ c. search needs)
     (λ c.
     let a = c .before .before .before .before .before .before .before .before .before .before .args in
     let g = c .before .before .before .before .before .before .before .before .before .before .pre .1 .1 in
-    (g, tells-few (now (a .image)) (a .newest) (a .q) (a .c) g (sym (c .before .before .before .before .before .recall .ensures) ∙ c .before .before .before .r .given .1) (omega (arith, c .before .if2 .taken, c .before .before .before .before .before .before .before .before .before .before .pre .1 .0)) (c .new .ensures)))
-    (λ c.
-    let a = c .before .before .before .before .before .before .before .before .before .args in
-    let g = c .before .before .before .before .before .before .before .before .before .pre .1 .1 in
     (g, tells-recalled (now (a .image)) (a .newest) (a .q) (a .c) g (sym (c .before .before .before .before .recall .ensures) ∙ c .before .before .r .given .1) (omega (arith, c .if2 .left))))
     (λ c κs. search needs)
+    (λ c. search needs)
     (λ c.
-    let a = c .before .before .before .before .before .before .before .before .args in
-    (c .before .before .before .before .before .before .before .before .pre .1 .1, tells-ninth (now (a .image)) (a .newest) (a .q) (a .c) (c .before .before .before .before .before .if1 .left) (c .before .if3 .taken) (c .new2 .ensures)))
+    let a = c .before .before .before .before .before .before .before .before .before .args in
+    (c .before .before .before .before .before .before .before .before .before .pre .1 .1, tells-ninth (now (a .image)) (a .newest) (a .q) (a .c) (c .before .before .before .before .before .if1 .left) (c .before .if3 .taken) (c .new2 .ensures)))
     (λ c. search needs)
     (λ c κs. search needs)
     (λ c. c .before .number-key .ensures .inside)
     (λ c. sym (length-take-le _ _ (c .before .before .number-key .ensures .inside)))
     (λ c. search needs)
-    (λ c κs. (omega (arith, c .before .before .before .before .before .before .before .before .before .before .before .before .pre .0), (omega (arith, c .before .before .before .before .before .before .before .before .before .before .before .before .pre .1 .0), c .before .before .before .before .before .before .before .before .before .before .before .before .pre .1 .1)))
+    (λ c κs. (omega (arith, c .before .before .before .before .before .before .before .before .before .before .before .before .before .pre .0), (omega (arith, c .before .before .before .before .before .before .before .before .before .before .before .before .before .pre .1 .0), c .before .before .before .before .before .before .before .before .before .before .before .before .before .pre .1 .1)))
     (λ c κs.
-    let a = c .before .before .before .before .before .before .before .before .before .before .before .before .before .before .args in
-    omega (arith, sought-few (now (a .image)) (a .newest) _ _ _ _ (a .q - 1) (c .before .descend .result) (c .before .descend .ensures .1), c .before .before .before .before .before .before .before .before .before .before .before .before .before .before .pre .1 .0))
+    let a = c .before .before .before .before .before .before .before .before .before .before .before .before .before .before .before .before .before .args in
+    omega (arith, sought-few (now (a .image)) (a .newest) _ _ _ _ (a .q - 1) (c .before .before .before .descend .result) (c .before .before .before .descend .ensures .1), c .before .before .before .before .before .before .before .before .before .before .before .before .before .before .before .before .before .pre .1 .0))
+    (λ c. search needs)
     (λ c.
-    let a = c .before .before .before .before .before .before .before .before .before .before .before .before .before .before .before .args in
-    let d = c .before .before .descend in
-    tells-settled (now (a .image)) (a .newest) (a .q) (a .c) _ (d .result) (c .before .before .before .before .before .before .before .before .before .before .before .before .if1 .left) (c .before .before .before .before .before .before .before .before .if3 .left) (c .before .before .before .before .before .before .before .before .before .before .before .before .before .before .before .pre .1 .0) (d .ensures .0) _ (c .before .before .before .before .before .number-key .ensures .text) (d .ensures .1) (c .settle .result) _ (c .settle .ensures .0) (c .settle .ensures .1))
+    let a = c .before .before .before .before .before .before .before .before .before .before .before .before .before .before .before .before .before .before .before .before .args in
+    let d = c .before .before .before .before .before .before .descend in
+    tells-settled (now (a .image)) (a .newest) (a .q) (a .c) _ (d .result) (c .before .before .before .before .before .before .before .before .before .before .before .before .before .before .before .before .if1 .left) (c .before .before .before .before .before .before .before .before .before .before .before .before .if3 .left) (c .before .before .before .before .before .before .before .before .before .before .before .before .before .before .before .before .before .before .before .before .pre .1 .0) (d .ensures .0) _ (c .before .before .before .before .before .before .before .before .before .number-key .ensures .text) (d .ensures .1) (c .before .before .settle .result) _ (c .before .before .settle .ensures .0) (c .before .before .settle .ensures .1))
 
 pub +descend+locate-spec : {M : Type 1} → statement M
 +descend+locate-spec = close μ-descend μ-locate descend-meets locate-meets

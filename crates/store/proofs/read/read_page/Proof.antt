@@ -8,23 +8,23 @@ use Rattle.store.proofs.read.read_page.Tie as tie
 
 returns : tie.Need-returns
 returns c =
-    let a = c .before .before .before .args in
-    (c .before .before .before .pre, judged-zero (now (a .image)) (a .newest) (a .map) (a .kind) (a .p) (c .before .if1 .taken) (c .new .ensures))
+    let a = c .before .before .before .before .args in
+    (c .before .before .before .before .pre, judged-zero (now (a .image)) (a .newest) (a .map) (a .kind) (a .p) (c .before .if1 .taken) (c .new .ensures))
 
 locate-requires : tie.Need-locate-requires
-locate-requires c κs = (omega arith, c .before .before .before .before .pre)
+locate-requires c κs = (omega arith, c .before .before .before .before .before .pre)
 
 returns-2 : tie.Need-returns-2
 returns-2 c =
-    let a = c .before .before .before .before .before .before .before .before .before .args in
-    let l = c .before .before .before .before .locate in
-    (l .ensures .0, c .judge .ensures ∙ judged-there (now (a .image)) (a .newest) (a .map) (a .kind) (a .p) (c .before .before .before .before .before .before .before .if1 .left) _ (c .before .before .before .before .before .chunk .ensures) (l .ensures .1) (c .before .before .t .given .1))
+    let a = c .before .before .before .before .before .before .before .before .before .before .before .before .args in
+    let l = c .before .before .before .before .before .before .locate in
+    (l .ensures .0, c .judge .ensures ∙ judged-there (now (a .image)) (a .newest) (a .map) (a .kind) (a .p) (c .before .before .before .before .before .before .before .before .before .if1 .left) _ (c .before .before .before .before .before .before .before .chunk .ensures) (l .ensures .1) (c .before .before .t .given .1))
 
 returns-3 : tie.Need-returns-3
 returns-3 c =
-    let a = c .before .before .before .before .before .before .before .before .args in
-    let l = c .before .before .before .locate in
-    (l .ensures .0, judged-nowhere (now (a .image)) (a .newest) (a .map) (a .kind) (a .p) (c .before .before .before .before .before .before .if1 .left) _ (c .before .before .before .before .chunk .ensures) (l .ensures .1) (c .before .t2 .given .1))
+    let a = c .before .before .before .before .before .before .before .before .before .before .before .args in
+    let l = c .before .before .before .before .before .locate in
+    (l .ensures .0, judged-nowhere (now (a .image)) (a .newest) (a .map) (a .kind) (a .p) (c .before .before .before .before .before .before .before .before .if1 .left) _ (c .before .before .before .before .before .before .chunk .ensures) (l .ensures .1) (c .before .t2 .given .1))
 
 pub read-page-spec : {M : Type 1} → statement M
 read-page-spec =
@@ -37,5 +37,7 @@ read-page-spec =
     (λ c. search needs)
     (λ c κs. search needs)
     (λ c. search needs)
+    (λ c. search needs)
     returns-2
+    (λ c. search needs)
     returns-3)

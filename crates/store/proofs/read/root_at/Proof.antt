@@ -9,8 +9,8 @@ use Rattle.store.proofs.read.root_at.Tie as tie
 
 returns : tie.Need-returns
 returns c =
-    let a = c .before .before .args in
-    (c .before .before .pre, sym (root-metadata (now (a .image)) (a .newest) (a .map) (c .if1 .taken)))
+    let a = c .before .before .before .args in
+    (c .before .before .before .pre, sym (root-metadata (now (a .image)) (a .newest) (a .map) (c .if1 .taken)))
 
 array-share-prefix-key : tie.Need-array-share-prefix-key
 array-share-prefix-key c = c .before .number-key .ensures .inside
@@ -19,13 +19,13 @@ slice-aggregate-descend : tie.Need-slice-aggregate-descend
 slice-aggregate-descend c = sym (length-take-le _ _ (c .before .before .number-key .ensures .inside))
 
 descend-requires : tie.Need-descend-requires
-descend-requires c κs = (omega arith, c .before .before .before .before .before .before .before .pre)
+descend-requires c κs = (omega arith, c .before .before .before .before .before .before .before .before .pre)
 
 returns-2 : tie.Need-returns-2
 returns-2 c =
-    let a = c .before .before .before .before .before .before .before .before .before .args in
-    let d = c .before .descend in
-    (d .ensures .0, c .root-by .ensures ∙ root-sought (now (a .image)) (a .newest) _ (d .result) (d .ensures .1) (a .map) (c .before .before .before .before .before .before .before .if1 .left) (c .before .before .before .before .number-key .ensures .text))
+    let a = c .before .before .before .before .before .before .before .before .before .before .before .before .args in
+    let d = c .before .before .before .descend in
+    (d .ensures .0, c .root-by .ensures ∙ root-sought (now (a .image)) (a .newest) _ (d .result) (d .ensures .1) (a .map) (c .before .before .before .before .before .before .before .before .before .if1 .left) (c .before .before .before .before .before .before .number-key .ensures .text))
 
 pub root-at-spec : {M : Type 1} → statement M
 root-at-spec =
@@ -38,4 +38,5 @@ root-at-spec =
     slice-aggregate-descend
     descend-requires
     (λ c κs. search needs)
+    (λ c. search needs)
     returns-2)

@@ -3,8 +3,6 @@ use mathlib.Core.Path.{refl, sym, ap, _∙_}
 use Rattle.metadata.specs.declared.Told.the-variants.{Refused}
 use Rattle.metadata.specs.Answers.{needOf}
 use Rattle.store.specs.Steps.{settledTold, settledWords}
-use Rattle.store.specs.MemoryLaws.{Held}
-use Rattle.store.specs.SettleLaws.{standing-held}
 use borrow.Author.Needs.{needs}
 use Rattle.store.proofs.settle.settle.Statement.{statement}
 use Rattle.store.proofs.settle.settle.Tie as tie
@@ -18,17 +16,10 @@ returns c =
 add-remember : tie.Need-add-remember
 add-remember c = omega (arith, ap needOf (c .before .before .before .before .before .before .before .f2 .given .1))
 
-remember-requires : tie.Need-remember-requires
-remember-requires c κs =
-    let a = c .before .before .before .before .before .before .before .before .before .before .args in
-    let stands = sym (c .before .before .before .before .before .standing-by .ensures) ∙ c .before .before .before .s .given .1 in
-    let h : Held (c .before .place-of .result) = rw (c .before .place-of .ensures) (standing-held (a .image .now) (a .n) _ stands) in
-    (h .block-small, omega (arith, ap needOf (c .before .before .before .before .before .before .before .f2 .given .1)))
-
 returns-2 : tie.Need-returns-2
 unfolding settledTold settledWords
 returns-2 c =
-    let a = c .before .before .before .before .args in
+    let a = c .before .before .before .before .before .args in
     (sym (ap (settledTold (a .image .now) (a .n)) (c .before .f .given .1)), refl)
 
 returns-3 : tie.Need-returns-3
@@ -38,9 +29,9 @@ returns-3 c = (rw (c .before .enum-told .given .1) (ap Refused (c .new .ensures)
 returns-4 : tie.Need-returns-4
 unfolding settledTold settledWords
 returns-4 c =
-    let found = c .before .before .before .before .before .before .before .before .f2 .given .1 in
-    let stands = c .before .before .before .before .s .given .1 in
-    (rw (found, ← c .before .before .before .before .before .before .standing-by .ensures, stands, c .before .before .place-of .ensures), c .remember .ensures)
+    let found = c .before .before .before .before .before .before .before .before .before .before .f2 .given .1 in
+    let stands = c .before .before .before .before .before .before .s .given .1 in
+    (rw (found, ← c .before .before .before .before .before .before .before .before .standing-by .ensures, stands, c .before .before .before .before .place-of .ensures), c .before .before .remember .ensures)
 
 pub settle-spec : {M : Type 1} → statement M
 settle-spec =
@@ -57,8 +48,9 @@ settle-spec =
     returns
     (λ c κs. search needs)
     add-remember
-    remember-requires
-    (λ c. omega (arith, ap needOf (c .before .before .before .before .before .before .before .before .f2 .given .1)))
+    (λ c κs. search needs)
+    (λ c. omega (arith, ap needOf (c .before .before .before .before .before .before .before .before .before .before .f2 .given .1)))
     returns-2
     returns-3
+    (λ c. search needs)
     returns-4)

@@ -1,37 +1,27 @@
-use denote.Ref.{now}
 use Rattle.store.specs.MemoryLaws.{empty-right}
-use Rattle.store.specs.WalkStepLaws.{step-no-root, step-from}
 use borrow.Author.Needs.{needs}
 use Rattle.store.proofs.walking.advance.Statement.{statement}
 use Rattle.store.proofs.walking.advance.Tie as tie
 
-root-at-requires : tie.Need-root-at-requires
-root-at-requires c κs = empty-right _ _
+advance-with-requires : tie.Need-advance-with-requires
+advance-with-requires c κs = empty-right _ _ 512
 
 returns : tie.Need-returns
-returns c =
-    let a = c .before .before .before .before .before .before .before .args in
-    let root-at = c .before .before .before .before .root-at in
-    let r = c .before .before .r in
-    let refused = c .refused in
-    step-no-root (now (a .image)) (a .newest) (a .map) (a .kind) (a .w) (root-at .ensures .1) (r .given .1) (refused .ensures)
+returns c = c .before .advance-with .ensures
+
+advance-with-requires-2 : tie.Need-advance-with-requires-2
+advance-with-requires-2 c κs = empty-right _ _ 8192
 
 returns-2 : tie.Need-returns-2
-returns-2 c =
-    let a = c .before .before .before .before .before .before .before .before .args in
-    let root-at = c .before .before .before .before .before .root-at in
-    let r2 = c .before .before .before .r2 in
-    let advance-from = c .advance-from in
-    step-from (now (a .image)) (a .newest) (a .map) (a .kind) (a .w) (root-at .ensures .1) (r2 .given .1) (advance-from .ensures)
+returns-2 c = c .before .advance-with2 .ensures
 
 pub advance-spec : {M : Type 1} → statement M
 advance-spec =
     tie.close
     (tie.spec
-    root-at-requires
     (λ c. search needs)
-    (λ c κs. search needs)
-    (λ c. search needs)
-    (λ c κs. search needs)
+    advance-with-requires
     returns
+    (λ c. search needs)
+    advance-with-requires-2
     returns-2)

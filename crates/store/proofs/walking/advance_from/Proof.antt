@@ -10,7 +10,7 @@ use Rattle.store.proofs.walking.advance_from.Tie as tie
 
 returns : tie.Need-returns
 returns c =
-    let a = c .before .before .before .before .before .args in
+    let a = c .before .before .before .before .before .before .args in
     let is-formed = c .before .before .before .is-formed in
     let if1 = c .before .before .if1 in
     let new = c .before .new in
@@ -20,7 +20,7 @@ returns c =
 
 returns-2 : tie.Need-returns-2
 returns-2 c =
-    let a = c .before .before .before .before .before .before .before .args in
+    let a = c .before .before .before .before .before .before .before .before .args in
     let is-formed = c .before .before .before .before .before .is-formed in
     let if1 = c .before .before .before .before .if1 in
     let if2 = c .before .before .if2 in
@@ -31,18 +31,18 @@ returns-2 c =
 
 returns-3 : tie.Need-returns-3
 returns-3 c =
-    let a = c .before .before .before .before .before .before .before .before .before .args in
-    let is-formed = c .before .before .before .before .before .before .before .is-formed in
-    let if1 = c .before .before .before .before .before .before .if1 in
-    let if2 = c .before .before .before .before .if2 in
-    let leftmost-from = c .before .leftmost-from in
+    let a = c .before .before .before .before .before .before .before .before .before .before .before .before .args in
+    let is-formed = c .before .before .before .before .before .before .before .before .before .is-formed in
+    let if1 = c .before .before .before .before .before .before .before .before .if1 in
+    let if2 = c .before .before .before .before .before .before .if2 in
+    let leftmost-from = c .before .before .before .leftmost-from in
     let left-step = c .left-step in
     step-first (now (a .image)) (a .newest) (a .map) (a .kind) (a .root) (a .w) (sym (is-formed .ensures .0) ∙ if1 .taken) (if2 .taken)
     (omega arith) (leftmost-from .result) (leftmost-from .ensures .1) (left-step .ensures)
 
 returns-4 : tie.Need-returns-4
 returns-4 c =
-    let a = c .before .before .before .before .before .before .before .before .args in
+    let a = c .before .before .before .before .before .before .before .before .before .args in
     let is-formed = c .before .before .before .before .before .before .is-formed in
     let if1 = c .before .before .before .before .before .if1 in
     let if2 = c .before .before .before .if2 in
@@ -56,18 +56,18 @@ returns-4 c =
 
 down-by-requires : tie.Need-down-by-requires
 down-by-requires c κs =
-    let a = c .before .before .before .before .before .before .before .before .args in
-    let pre = c .before .before .before .before .before .before .before .before .pre in
+    let a = c .before .before .before .before .before .before .before .before .before .args in
+    let pre = c .before .before .before .before .before .before .before .before .before .pre in
     let is-formed = c .before .before .before .before .before .before .is-formed in
     let if1 = c .before .before .before .before .before .if1 in
     (omega arith, formed-most (a .w) (sym (is-formed .ensures .0) ∙ if1 .taken), omega arith, pre)
 
 add-leftmost-from : tie.Need-add-leftmost-from
 add-leftmost-from c =
-    let a = c .before .before .before .before .before .before .before .before .before .before .before .before .before .args in
-    let is-formed = c .before .before .before .before .before .before .before .before .before .before .before .is-formed in
-    let if1 = c .before .before .before .before .before .before .before .before .before .before .if1 in
-    let down-by = c .before .before .before .before .down-by in
+    let a = c .before .before .before .before .before .before .before .before .before .before .before .before .before .before .before .before .args in
+    let is-formed = c .before .before .before .before .before .before .before .before .before .before .before .before .before .is-formed in
+    let if1 = c .before .before .before .before .before .before .before .before .before .before .before .before .if1 in
+    let down-by = c .before .before .before .before .before .before .down-by in
     let d2 = c .before .before .d2 in
     let h = sym (is-formed .ensures .0) ∙ if1 .taken in
     omega (
@@ -80,10 +80,10 @@ add-leftmost-from c =
 
 leftmost-from-requires-2 : tie.Need-leftmost-from-requires-2
 leftmost-from-requires-2 c κs =
-    let a = c .before .before .before .before .before .before .before .before .before .before .before .before .before .args in
-    let is-formed = c .before .before .before .before .before .before .before .before .before .before .before .is-formed in
-    let if1 = c .before .before .before .before .before .before .before .before .before .before .if1 in
-    let down-by = c .before .before .before .before .down-by in
+    let a = c .before .before .before .before .before .before .before .before .before .before .before .before .before .before .before .before .args in
+    let is-formed = c .before .before .before .before .before .before .before .before .before .before .before .before .before .is-formed in
+    let if1 = c .before .before .before .before .before .before .before .before .before .before .before .before .if1 in
+    let down-by = c .before .before .before .before .before .before .down-by in
     let d2 = c .before .before .d2 in
     let h = sym (is-formed .ensures .0) ∙ if1 .taken in (
       omega (
@@ -98,10 +98,10 @@ leftmost-from-requires-2 c κs =
 
 returns-5 : tie.Need-returns-5
 returns-5 c =
-    let a = c .before .before .before .before .before .before .before .before .before .before .before .before .before .args in
-    let is-formed = c .before .before .before .before .before .before .before .before .before .before .before .is-formed in
-    let if1 = c .before .before .before .before .before .before .before .before .before .before .if1 in
-    let down-by = c .before .before .before .before .down-by in
+    let a = c .before .before .before .before .before .before .before .before .before .before .before .before .before .before .before .before .args in
+    let is-formed = c .before .before .before .before .before .before .before .before .before .before .before .before .before .is-formed in
+    let if1 = c .before .before .before .before .before .before .before .before .before .before .before .before .if1 in
+    let down-by = c .before .before .before .before .before .before .down-by in
     let d = c .before .before .d in
     let placed = c .placed in
     let h = sym (is-formed .ensures .0) ∙ if1 .taken in
@@ -111,12 +111,12 @@ returns-5 c =
 
 returns-6 : tie.Need-returns-6
 returns-6 c =
-    let a = c .before .before .before .before .before .before .before .before .before .before .before .before .before .before .before .args in
-    let is-formed = c .before .before .before .before .before .before .before .before .before .before .before .before .before .is-formed in
-    let if1 = c .before .before .before .before .before .before .before .before .before .before .before .before .if1 in
-    let down-by = c .before .before .before .before .before .before .down-by in
-    let d2 = c .before .before .before .before .d2 in
-    let leftmost-from2 = c .before .leftmost-from2 in
+    let a = c .before .before .before .before .before .before .before .before .before .before .before .before .before .before .before .before .before .before .before .before .args in
+    let is-formed = c .before .before .before .before .before .before .before .before .before .before .before .before .before .before .before .before .before .is-formed in
+    let if1 = c .before .before .before .before .before .before .before .before .before .before .before .before .before .before .before .before .if1 in
+    let down-by = c .before .before .before .before .before .before .before .before .before .before .down-by in
+    let d2 = c .before .before .before .before .before .before .d2 in
+    let leftmost-from2 = c .before .before .before .leftmost-from2 in
     let left-step2 = c .left-step2 in
     let h = sym (is-formed .ensures .0) ∙ if1 .taken in
     step-on (now (a .image)) (a .newest) (a .map) (a .kind) (a .root) (a .w) h
@@ -125,10 +125,10 @@ returns-6 c =
 
 returns-7 : tie.Need-returns-7
 returns-7 c =
-    let a = c .before .before .before .before .before .before .before .before .before .before .before .before .args in
-    let is-formed = c .before .before .before .before .before .before .before .before .before .before .is-formed in
-    let if1 = c .before .before .before .before .before .before .before .before .before .if1 in
-    let down-by = c .before .before .before .down-by in
+    let a = c .before .before .before .before .before .before .before .before .before .before .before .before .before .before .before .args in
+    let is-formed = c .before .before .before .before .before .before .before .before .before .before .before .before .is-formed in
+    let if1 = c .before .before .before .before .before .before .before .before .before .before .before .if1 in
+    let down-by = c .before .before .before .before .before .down-by in
     let enum-told = c .before .enum-told in
     let done2 = c .done2 in
     let h = sym (is-formed .ensures .0) ∙ if1 .taken in
@@ -138,10 +138,10 @@ returns-7 c =
 
 returns-8 : tie.Need-returns-8
 returns-8 c =
-    let a = c .before .before .before .before .before .before .before .before .before .before .before .before .before .args in
-    let is-formed = c .before .before .before .before .before .before .before .before .before .before .before .is-formed in
-    let if1 = c .before .before .before .before .before .before .before .before .before .before .if1 in
-    let down-by = c .before .before .before .before .down-by in
+    let a = c .before .before .before .before .before .before .before .before .before .before .before .before .before .before .before .before .args in
+    let is-formed = c .before .before .before .before .before .before .before .before .before .before .before .before .before .is-formed in
+    let if1 = c .before .before .before .before .before .before .before .before .before .before .before .before .if1 in
+    let down-by = c .before .before .before .before .before .before .down-by in
     let d3 = c .before .before .d3 in
     let refused3 = c .refused3 in
     let h = sym (is-formed .ensures .0) ∙ if1 .taken in
@@ -161,6 +161,7 @@ advance-from-spec =
     returns-2
     (λ c κs. search needs)
     (λ c κs. search needs)
+    (λ c. search needs)
     returns-3
     (λ c κs. search needs)
     (λ c κs. search needs)
@@ -176,7 +177,11 @@ advance-from-spec =
     (λ c κs. search needs)
     (λ c. search needs)
     (λ c κs. search needs)
+    (λ c. search needs)
     returns-5
+    (λ c. search needs)
     returns-6
+    (λ c. search needs)
     returns-7
+    (λ c. search needs)
     returns-8)
