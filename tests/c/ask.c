@@ -7,10 +7,30 @@
 
 /* What an area holds before a copy. */
 #define FILL 0xa5
+#define BLOCK ((size_t)4096)
 
+/* What each call can give, as mvstore.h says above it: bit n is refusal n, bit 0 an answer. */
+#define BIT(n) (UINT32_C(1) << (n))
+enum {
+    of_lookup = (BIT(MVSTORE_TOO_DEEP + 1) - 1) | BIT(MVSTORE_NOT_A_NUMBER),
+    of_map = of_lookup | BIT(MVSTORE_NO_SUCH_NAME),
+    of_copy = of_lookup | BIT(MVSTORE_AREA_TOO_SMALL),
+    of_index = of_lookup | BIT(MVSTORE_BAD_INDEX),
+    of_count = of_lookup,
+    of_next = of_lookup | BIT(MVSTORE_UNSOUND),
+    of_examine = of_next
+};
+
+static int gives(uint32_t call, uint32_t refusal)
+{
+    return refusal <= MVSTORE_AREA_TOO_SMALL && (call & BIT(refusal)) != 0;
+}
+
+/* The image is its whole blocks: a last part block is ignored. */
 static int inside(lent image, uint64_t at, uint64_t len)
 {
-    return at <= image.len && len <= image.len - at;
+    size_t end = image.len - image.len % BLOCK;
+    return at <= end && len <= end - at;
 }
 
 int at_place(lent image, uint64_t at, uint64_t len, const void *bytes, size_t due)
@@ -18,9 +38,9 @@ int at_place(lent image, uint64_t at, uint64_t len, const void *bytes, size_t du
     return len == due && inside(image, at, len) && memcmp(image.bytes + at, bytes, due) == 0;
 }
 
-static void claim_value(lent image, mvstore_value v)
+static void claim_value(lent image, mvstore_value v, uint32_t call)
 {
-    CHECK(v.refusal <= MVSTORE_AREA_TOO_SMALL);
+    CHECK(gives(call, v.refusal));
     CHECK(v.found <= 1);
     CHECK(v.refusal == 0 || v.found == 0);
     CHECK(v.found == 1 || (v.at == 0 && v.len == 0));
@@ -50,7 +70,7 @@ mvstore_id ask_map(lent image, const void *name, size_t len)
     lent n = sealed(name, len);
     mvstore_id id = mvstore_map(image.bytes, image.len, n.bytes, n.len);
     lent_free(&n);
-    CHECK(id.refusal <= MVSTORE_AREA_TOO_SMALL);
+    CHECK(gives(of_map, id.refusal));
     CHECK(id.refusal != 0 ? id.id == 0 : id.id >= 1 && id.id <= 0x7fffffff);
     return id;
 }
@@ -60,7 +80,7 @@ mvstore_value ask_lookup(lent image, asked_map m, const void *key, size_t len)
     lent k = sealed(key, len);
     mvstore_value v = mvstore_lookup(image.bytes, image.len, m.id, m.kind, k.bytes, k.len);
     lent_free(&k);
-    claim_value(image, v);
+    claim_value(image, v, of_lookup);
     return v;
 }
 
@@ -86,7 +106,7 @@ mvstore_value ask_copy(lent image, asked_map m, const void *key, size_t len, siz
         memset(area.bytes, FILL, room);
     mvstore_value v = mvstore_copy(image.bytes, image.len, m.id, m.kind, k.bytes, k.len,
                                    area.bytes, area.len);
-    claim_value(image, v);
+    claim_value(image, v, of_copy);
     CHECK(v.len <= room);
     if (v.len <= room) {
         CHECK(v.len == 0 || memcmp(area.bytes, image.bytes + v.at, v.len) == 0);
@@ -100,7 +120,7 @@ mvstore_value ask_copy(lent image, asked_map m, const void *key, size_t len, siz
 mvstore_entry ask_index(lent image, asked_map m, uint64_t index)
 {
     mvstore_entry e = mvstore_index(image.bytes, image.len, m.id, m.kind, index);
-    CHECK(e.refusal <= MVSTORE_AREA_TOO_SMALL);
+    CHECK(gives(of_index, e.refusal));
     CHECK(e.refusal == 0 || (e.number == 0 && e.at == 0 && e.len == 0));
     CHECK(e.refusal == 0 || (e.key_at == 0 && e.key_len == 0));
     CHECK(m.kind == MVSTORE_NUMBER ? e.key_at == 0 && e.key_len == 0 : e.number == 0);
@@ -111,7 +131,7 @@ mvstore_entry ask_index(lent image, asked_map m, uint64_t index)
 mvstore_count_of ask_count(lent image, asked_map m)
 {
     mvstore_count_of c = mvstore_count(image.bytes, image.len, m.id, m.kind);
-    CHECK(c.refusal <= MVSTORE_AREA_TOO_SMALL);
+    CHECK(gives(of_count, c.refusal));
     CHECK(c.refusal == 0 || c.count == 0);
     return c;
 }
@@ -125,12 +145,24 @@ static int goes_on(mvstore_walk w)
     return w.last == 0 && w.depth >= 1 && w.depth <= 16 && rest == 0;
 }
 
+static int recorded(mvstore_walk w)
+{
+    return w.last == MVSTORE_DONE || (w.last >= 1 && w.last <= MVSTORE_AREA_TOO_SMALL);
+}
+
+/* Whatever is recorded, another call's refusal too, the state unchanged. */
+static int given_again(mvstore_walk w, mvstore_step s)
+{
+    return (w.last == MVSTORE_DONE ? s.done == 1 : s.refusal == w.last)
+           && memcmp(&w, &s.walk, sizeof w) == 0;
+}
+
 mvstore_step ask_next(lent image, asked_map m, mvstore_walk walk)
 {
     mvstore_step s = mvstore_next(image.bytes, image.len, m.id, m.kind, walk);
     int entry = s.refusal == 0 && s.done == 0;
-    CHECK(s.refusal <= MVSTORE_AREA_TOO_SMALL && s.done <= 1);
-    CHECK(s.refusal == 0 || s.done == 0);
+    CHECK(recorded(walk) ? given_again(walk, s) : gives(of_next, s.refusal));
+    CHECK(s.done <= 1 && (s.refusal == 0 || s.done == 0));
     CHECK(entry || (s.number == 0 && s.at == 0 && s.len == 0));
     CHECK(entry || (s.key_at == 0 && s.key_len == 0));
     CHECK(m.kind == MVSTORE_NUMBER ? s.key_at == 0 && s.key_len == 0 : s.number == 0);
@@ -142,7 +174,7 @@ mvstore_step ask_next(lent image, asked_map m, mvstore_walk walk)
 mvstore_report ask_examine(lent image, asked_map m)
 {
     mvstore_report r = mvstore_examine(image.bytes, image.len, m.id, m.kind);
-    CHECK(r.refusal <= MVSTORE_NOT_A_NUMBER);
+    CHECK(gives(of_examine, r.refusal));
     CHECK(r.refusal == 0 || (r.depth == 0 && r.entries == 0 && r.pages == 0));
     CHECK(r.depth <= 16 && r.depth <= r.pages);
     return r;

@@ -1,8 +1,8 @@
 /* ask.h - the exports, asked with fenced arguments.
  *
- * Each claims what holds of every answer: a refusal has zeros everywhere else,
- * Absent too; places lie inside the image; a copy writes the value and leaves
- * every other byte of its area.
+ * Each claims what holds of every answer: a refusal is one that the call can
+ * give and has zeros everywhere else, Absent too; places lie inside the image;
+ * a copy writes the value and leaves every other byte of its area.
  */
 #ifndef ASK_H
 #define ASK_H

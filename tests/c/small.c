@@ -4,29 +4,17 @@
 #include <stdio.h>
 #include <string.h>
 
+#include "fletcher.h"
 #include "number.h"
 
 #define BLOCK 4096
 #define CHUNK ((size_t)2 * BLOCK) /* where the chunk begins */
 
-/* 01: "second sum times 65536 plus first sum"; an odd last byte is not counted. */
-static uint32_t fletcher(const char *text, size_t len)
-{
-    uint32_t first = 65535, second = 65535;
-    for (size_t i = 0; i + 1 < len; i += 2) {
-        first = (first + ((uint32_t)(uint8_t)text[i] << 8 | (uint8_t)text[i + 1])) % 65535;
-        second = (second + first) % 65535;
-    }
-    first = first == 0 ? 65535 : first;
-    second = second == 0 ? 65535 : second;
-    return second << 16 | first;
-}
-
 static void put_summed(uint8_t *at, const char *text)
 {
     char line[256];
     int len = snprintf(line, sizeof line, "%s,fletcher:%" PRIx32 "\n", text,
-                       fletcher(text, strlen(text)));
+                       fletcher((const uint8_t *)text, strlen(text)));
     memcpy(at, line, (size_t)len);
 }
 
