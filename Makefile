@@ -15,7 +15,13 @@ CFLAGS = -O2
 WARNINGS = -std=c11 -Wall -Wextra -Wpedantic
 INSTALL = install
 
-.PHONY: list test lib mvstore plotter install bench target/staticlib/libmvstore.a
+.PHONY: list test lib mvstore plotter install bench
+
+# rt is asked each time, and proves again only what has changed; not where LIB is given, though it
+# be the same file.
+ifeq ($(origin LIB), file)
+.PHONY: target/staticlib/libmvstore.a
+endif
 
 # The sample is a store that H2 wrote.
 list:
@@ -27,7 +33,6 @@ test:
 
 lib: target/staticlib/libmvstore.a
 
-# rt is asked each time: it proves again only what has changed.
 target/staticlib/libmvstore.a:
 	rt staticlib mvstore
 
