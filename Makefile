@@ -5,6 +5,7 @@
 #   make plotter      builds the example of examples/
 #   make install      header, archive, pkg-config file, command and man pages, to $(DESTDIR)$(PREFIX)
 #   make bench        times the library
+#   make fuzz         fuzzes the library's C exports for SECONDS=60; needs clang's libFuzzer or AFL++
 #
 # LIB=FILE takes an archive that is already made, and LDLIBS what it needs; then nothing is proved.
 PREFIX = /usr/local
@@ -14,8 +15,9 @@ VERSION = 0.1.0
 CFLAGS = -O2
 WARNINGS = -std=c11 -Wall -Wextra -Wpedantic
 INSTALL = install
+SECONDS = 60
 
-.PHONY: list test lib mvstore plotter install bench
+.PHONY: list test lib mvstore plotter install bench fuzz
 
 # rt is asked each time, and proves again only what has changed; not where LIB is given, though it
 # be the same file.
@@ -63,3 +65,6 @@ install: $(LIB) target/mvstore
 
 bench:
 	tests/run --bench $(PLAIN) $(STORES)
+
+fuzz: $(LIB)
+	tests/fuzz/run $(SECONDS) $(LIB)
