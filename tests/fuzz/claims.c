@@ -5,7 +5,6 @@
 #include <string.h>
 
 #include "check.h"
-#include "number.h"
 
 static const asked_map metadata = {0, MVSTORE_TEXT};
 

@@ -4,7 +4,7 @@
  *   seeds --input FILE..     gives the target these inputs, as a fuzzer left them
  *   seeds --write DIR IMAGE..  writes an input for each image, the questions in turn
  *
- * It aborts where a claim is false, after naming the image.
+ * It aborts where a claim is false; the last file that stderr names is the one.
  */
 #include <stdio.h>
 #include <stdlib.h>
