@@ -14,6 +14,8 @@ use crate::subject::exports;
 
 /// Entries and chunks.
 const STORES: [(u64, u64); 2] = [(1_000, 10), (100_000, 500)];
+/// The same of the store for the plain C reader: as many entries a chunk as the one before.
+const LARGE: (u64, u64) = (2_000_000, 10_000);
 /// The calls that are timed together.
 const CALLS: usize = 200;
 
@@ -28,6 +30,11 @@ pub fn print() {
         row(&store, "index", index_by_model, index_by_exports);
     }
     println!("times are medians of a call in microseconds; compare the ratios only");
+}
+
+/// Writes the large store.
+pub fn write(file: &str) -> std::io::Result<()> {
+    std::fs::write(file, Store::new(LARGE.0, LARGE.1).image)
 }
 
 fn row(store: &Store, call: &str, model: Asks, exports: Asks) {

@@ -7,14 +7,19 @@ use crate::build::tree::{number_key, Entries, MapPlan, Placed};
 use crate::family::standard::{chunk_entry, METADATA_PLAN};
 use crate::random::Random;
 
-/// What H2's pages hold on average: entries of a leaf, children of an inner page, entries of a leaf
+/// What H2's pages hold on average: entries of a leaf and children of an inner page, of the map and
 /// of the metadata.
 const LEAF: usize = 138;
 const FAN_OUT: usize = 380;
 const METADATA_LEAF: usize = 28;
-/// How far back from the newest chunk the metadata's leaves and the map's inner pages lie.
-const RECENT: usize = 80;
-const RECENT_INNER: usize = 3;
+const METADATA_FAN_OUT: usize = 180;
+/// The share of the chunks, newest last, that has the metadata's leaves. A commit changes the entries
+/// of the chunks whose pages it writes anew, so a leaf that names one of these lies in the same share
+/// of them.
+const RECENT_SHARE: usize = 16;
+/// How many chunks lie between the map's inner pages, and the bytes that one takes at most.
+const INNER_APART: usize = 3;
+const INNER_ROOM: u64 = 8000;
 /// The blocks of a chunk, and of the newest, which has room for all that finds none elsewhere.
 const BLOCKS: u64 = 7;
 const NEWEST_BLOCKS: u64 = 16;
@@ -45,6 +50,12 @@ fn key(entries: u64, i: u64) -> i64 {
     3 * i as i64 - entries as i64
 }
 
+/// The chunk that a metadata entry is about, by its number in the plan: ids begin with 1.
+fn named((key, _): &(Vec<u8>, Vec<u8>)) -> Option<usize> {
+    let digits = std::str::from_utf8(key.strip_prefix(b"chunk.")?).ok()?;
+    Some(usize::from_str_radix(digits, 16).ok()? - 1)
+}
+
 struct Building {
     random: Random,
     plan: Plan,
@@ -67,13 +78,16 @@ impl Building {
 
     /// The map's pages; its root's position.
     fn forces(&mut self, entries: u64) -> u64 {
-        let all: Entries =
-            (0..entries).map(|i| (number_key(key(entries, i)), VALUE.to_vec())).collect();
-        let leaves = all.chunks(LEAF).map(|part| self.leaf(FORCES_PLAN, 0, part)).collect();
-        self.root(FORCES_PLAN, leaves)
+        let entry = |i| (number_key(key(entries, i)), VALUE.to_vec());
+        let mut leaves = Vec::new();
+        for first in (0..entries).step_by(LEAF) {
+            let part: Entries = (first..entries.min(first + LEAF as u64)).map(entry).collect();
+            leaves.push(self.leaf(FORCES_PLAN, 0, &part));
+        }
+        self.root(FORCES_PLAN, FAN_OUT, INNER_APART, leaves)
     }
 
-    /// The metadata's pages; its root is the newest chunk's.
+    /// The metadata's pages; its root is the newest chunk's. Every commit writes its inner pages.
     fn metadata(&mut self, root: u64) {
         let mut all: Entries = (0..self.newest).map(|chunk| self.entry_of(chunk)).collect();
         all.push((b"map.1".to_vec(), b"name:forces".to_vec()));
@@ -83,7 +97,7 @@ impl Building {
         let groups = all.chunks(METADATA_LEAF);
         let leaves = groups.map(|part| self.leaf(METADATA_PLAN, self.oldest_for(part), part));
         let leaves = leaves.collect();
-        let position = self.root(METADATA_PLAN, leaves);
+        let position = self.root(METADATA_PLAN, METADATA_FAN_OUT, 0, leaves);
         self.plan.chunks[self.newest].header.set("root", position);
     }
 
@@ -96,12 +110,12 @@ impl Building {
     /// The first chunk in which a leaf of these metadata entries may lie: after all chunks that it
     /// names, and in the newest if it has the root, which every commit writes.
     fn oldest_for(&self, entries: &[(Vec<u8>, Vec<u8>)]) -> usize {
-        let has = |key: &[u8]| entries.iter().any(|(k, _)| k == key);
-        let named = |&chunk: &usize| has(&self.entry_of(chunk).0);
-        let recent = self.newest.saturating_sub(RECENT);
-        match (0..self.newest).rev().find(named) {
-            Some(last) if !has(b"root.1") => recent.max(last + 1),
-            _ => self.newest,
+        let recent = self.newest / RECENT_SHARE;
+        match entries.iter().filter_map(named).max() {
+            _ if entries.iter().any(|(key, _)| key == b"root.1") => self.newest,
+            Some(last) if last + recent < self.newest => self.newest - recent,
+            Some(last) => (last + 1).max(self.newest - recent / RECENT_SHARE),
+            None => self.newest,
         }
     }
 
@@ -116,16 +130,21 @@ impl Building {
         }
     }
 
-    /// Inner pages over leaves, up to a root in the newest chunk; the root's position.
-    fn root(&mut self, map: MapPlan, leaves: Vec<Placed>) -> u64 {
+    /// An inner page so many chunks back from the newest, or after that in the first with room.
+    fn inner(&mut self, map: MapPlan, back: usize, children: &[Placed]) -> Placed {
+        let from = self.newest.saturating_sub(back);
+        let roomy = |&chunk: &usize| self.plan.chunks[chunk].has_room(INNER_ROOM);
+        let chunk = (from..self.newest).find(roomy).unwrap_or(self.newest);
+        map.inner(&mut self.plan, chunk, children)
+    }
+
+    /// Inner pages over leaves, so many chunks apart, up to a root in the newest chunk; the root's
+    /// position.
+    fn root(&mut self, map: MapPlan, fan_out: usize, apart: usize, leaves: Vec<Placed>) -> u64 {
         let mut level = leaves;
-        while level.len() > FAN_OUT {
-            let chunk = |i: usize| self.newest - (i * RECENT_INNER).min(self.newest);
-            let groups = level.chunks(FAN_OUT).enumerate();
-            level = groups.map(|(i, part)| map.inner(&mut self.plan, chunk(i), part)).collect();
-        }
-        if level.len() > 1 {
-            level = vec![map.inner(&mut self.plan, self.newest, &level)];
+        while level.len() > 1 {
+            let groups = level.chunks(fan_out).enumerate();
+            level = groups.map(|(i, part)| self.inner(map, i * apart, part)).collect();
         }
         self.plan.position(level[0].page)
     }

@@ -1,8 +1,16 @@
-//! `bench` times the C exports beside the model.
+//! `bench` times the C exports beside the model; `bench --store FILE` writes a store of 2,000,000
+//! entries.
 
 #[cfg(archive)]
-fn main() {
-    vihtumora_tests::bench::print();
+fn main() -> std::io::Result<()> {
+    let arguments: Vec<String> = std::env::args().skip(1).collect();
+    match &arguments[..] {
+        [flag, file] if flag == "--store" => vihtumora_tests::bench::write(file),
+        _ => {
+            vihtumora_tests::bench::print();
+            Ok(())
+        }
+    }
 }
 
 #[cfg(not(archive))]
