@@ -1,8 +1,8 @@
 // Runs of bytes. Definitions and laws in specs/; here the searches that have one byte as their aim.
-ghost use Prim.Native.Nat.{_+_};
+ghost use Prim.Native.Nat.{_+_, _<_, _≤_};
 ghost use mathlib.Core.Path.{_≡_};
 ghost use Rattle.text.specs.Text.{span, isNot, every, isPrintable, same};
-ghost use lib.ListN.{drop};
+ghost use lib.ListN.{length, take, drop};
 
 // The place of the first `b` from `from` on; where there is none, the place after the last byte.
 pub fn find_byte(s: &[u8], from: usize, b: u8) -> usize
@@ -18,22 +18,69 @@ pub fn find_byte(s: &[u8], from: usize, b: u8) -> usize
     i
 }
 
-// Whether all bytes of `s` are 32 to 126.
-pub fn all_printable(s: &[u8]) -> bool
+// Whether a byte is 32 to 126. No branch: of eight such tests joined by `&` a compiler makes one.
+fn printable(b: u8) -> bool
+    ensures { λ r. ⌜ r ≡ isPrintable b ⌝ }
+{
+    (32 <= b) & (b <= 126)
+}
+
+fn four_printable(s: &[u8], i: usize) -> bool
+    requires { ⌜ i + 4 ≤ length (now s) ⌝ }
+    ensures { λ r. ⌜ r ≡ every isPrintable (take 4 (drop i (now (s .entry)))) ⌝ }
+{
+    printable(s[i]) & printable(s[i + 1]) & printable(s[i + 2]) & printable(s[i + 3])
+}
+
+fn eight_printable(s: &[u8], i: usize) -> bool
+    requires { ⌜ i + 8 ≤ length (now s) ⌝ }
+    ensures { λ r. ⌜ r ≡ every isPrintable (take 8 (drop i (now (s .entry)))) ⌝ }
+{
+    four_printable(s, i) & four_printable(s, i + 4)
+}
+
+// All bytes of a text, one by one.
+fn each_printable(s: &[u8]) -> bool
     ensures { λ r. ⌜ r ≡ every isPrintable (now (s .entry)) ⌝ }
 {
     let mut i = 0;
     while i < s.len() {
-        let b = s[i];
-        if b < 32 {
-            return false;
-        }
-        if 126 < b {
+        if printable(s[i]) {} else {
             return false;
         }
         i += 1;
     }
     true
+}
+
+// All bytes of a text of fewer than eight.
+fn few_printable(s: &[u8]) -> bool
+    requires { ⌜ length (now s) < 8 ⌝ }
+    ensures { λ r. ⌜ r ≡ every isPrintable (now (s .entry)) ⌝ }
+{
+    if s.len() < 4 {
+        return each_printable(s);
+    }
+    four_printable(s, 0) & four_printable(s, s.len() - 4)
+}
+
+// Whether all bytes of `s` are 32 to 126. Eight at a time, and the last eight, some of which may have
+// been tested before.
+pub fn all_printable(s: &[u8]) -> bool
+    ensures { λ r. ⌜ r ≡ every isPrintable (now (s .entry)) ⌝ }
+{
+    if s.len() < 8 {
+        return few_printable(s);
+    }
+    let last = s.len() - 8;
+    let mut i = 0;
+    while i < last {
+        if eight_printable(s, i) {} else {
+            return false;
+        }
+        i += 8;
+    }
+    eight_printable(s, last)
 }
 
 // Whether `s` and `t` are the same bytes.

@@ -1,43 +1,41 @@
 use Prim.Native.Nat.{_-_}
-use mathlib.Core.Path.{_≡_, sym, _∙_}
+use mathlib.Core.Path.{_≡_, refl, sym, _∙_}
+use mathlib.Core.Bool.{true}
 use native.Mathlib.Omega.{arith}
-use borrow.Author.Tests.{le-leb, lt-leb}
 use denote.Ref.{now}
-use lib.ListN.{length, drop}
+use lib.ListN.{length, take, drop, length-drop}
+use lib.Seq.{take-all}
 use Rattle.text.specs.Text.{every, isPrintable}
-use Rattle.text.specs.Laws.{every-on, every-stop, every-end}
+use Rattle.text.specs.PartsLaws.{every-take, every-not, every-last}
 use borrow.Author.Needs.{needs}
 use Rattle.text.proofs.all_printable.Statement.{statement}
 use Rattle.text.proofs.all_printable.Tie as tie
 
 abbrev Inv-loop : tie.InvT-loop
-Inv-loop s i₀ i = (every isPrintable (drop i s) ≡ every isPrintable s)
+Inv-loop s last i₀ i = (every isPrintable (take i s) ≡ true)
 
 abbrev μ-loop : tie.MeasureT-loop
-μ-loop s i₀ i = length s - i
+μ-loop s last i₀ i = length s - i
 
-returns : tie.Need-returns Inv-loop μ-loop
-returns c =
-    let l = c .before .before .before .loop in
-    let a = c .before .before .before .before .args in
-    sym (every-stop isPrintable (now (a .s)) (l .i) (omega arith) (rw (lt-leb _ _ (c .if1 .taken)))) ∙ l .inv
+loop-holds : tie.Need-loop-holds Inv-loop μ-loop
+unfolding every
+loop-holds c = refl
 
 returns-2 : tie.Need-returns-2 Inv-loop μ-loop
 returns-2 c =
-    let l = c .before .before .before .before .loop in
-    let a = c .before .before .before .before .before .args in
-    sym (every-stop isPrintable (now (a .s)) (l .i) (omega arith) (rw (le-leb _ _ (c .before .if1 .left), lt-leb _ _ (c .if2 .taken)))) ∙ l .inv
+    let s = now (c .before .before .before .before .before .before .args .s) in
+    sym (every-not isPrintable 8 s (c .before .before .before .loop .i) (sym (c .before .eight-printable .ensures) ∙ c .if2 .left))
 
 loop-again : tie.Need-loop-again Inv-loop μ-loop
 loop-again c =
-    let l = c .before .before .before .before .loop in
-    let a = c .before .before .before .before .before .args in
-    sym (every-on isPrintable (now (a .s)) (l .i) (omega arith) (rw (le-leb _ _ (c .before .if1 .left), le-leb _ _ (c .if2 .left)))) ∙ l .inv
+    let s = now (c .before .before .before .before .before .before .args .s) in
+    rw (every-take isPrintable (c .before .before .before .loop .i) 8 s, c .before .before .before .loop .inv, ← c .before .eight-printable .ensures) (c .if2 .taken)
 
 returns-3 : tie.Need-returns-3 Inv-loop μ-loop
 returns-3 c =
-    let l = c .before .loop in
-    sym (every-end isPrintable (now (c .before .before .args .s)) (l .i) (omega arith)) ∙ l .inv
+    let s = now (c .before .before .before .before .before .args .s) in
+    let whole = take-all 8 (drop (length s - 8) s) (omega (arith, length-drop (length s - 8) s)) in
+    c .eight-printable2 .ensures ∙ rw whole (every-last isPrintable (length s - 8) s (c .before .before .loop .i) (c .before .before .loop .inv) (omega arith))
 
 pub all-printable-spec : {M : Type 1} → statement M
 all-printable-spec =
@@ -45,11 +43,14 @@ all-printable-spec =
     (tie.spec
     Inv-loop
     μ-loop
+    (λ c κs. search needs)
     (λ c. search needs)
     (λ c. search needs)
-    returns
+    loop-holds
+    (λ c κs. search needs)
     returns-2
     (λ c. search needs)
     (λ c. search needs)
     loop-again
+    (λ c κs. search needs)
     returns-3)
