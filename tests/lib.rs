@@ -13,3 +13,4 @@ pub mod openings;
 pub mod random;
 pub mod subject;
 pub mod vectors;
+pub mod worst;

@@ -4,6 +4,7 @@
 mod pairs;
 mod store;
 
+pub use pairs::processor_seconds;
 use pairs::{timed, Timed};
 use store::Store;
 

@@ -55,7 +55,7 @@ extern "C" {
 /// Linux's number of the clock.
 const THREAD_PROCESSOR_TIME: i32 = 3;
 
-fn processor_seconds() -> f64 {
+pub fn processor_seconds() -> f64 {
     let mut time = Time { seconds: 0, nanoseconds: 0 };
     // SAFETY: the call writes one `Time`, which is there.
     let status = unsafe { clock_gettime(THREAD_PROCESSOR_TIME, &mut time) };

@@ -18,9 +18,9 @@ pub struct Report {
 
 /// "the nearest separators above on each side"
 #[derive(Clone, Copy)]
-struct Between<'a> {
-    left: Option<Key<'a>>,
-    right: Option<Key<'a>>,
+pub struct Between<'a> {
+    pub left: Option<Key<'a>>,
+    pub right: Option<Key<'a>>,
 }
 
 /// "The examination goes depth first; it refuses at the first fault."
@@ -83,7 +83,7 @@ fn judge(good: bool) -> Outcome<()> {
 
 /// "Separators are tested to rise strictly and to lie strictly between the nearest separators
 /// above on each side".
-fn separators_good(keys: &[PageKey], between: Between) -> bool {
+pub fn separators_good(keys: &[PageKey], between: Between) -> bool {
     let inside = |key: Key| {
         between.left.is_none_or(|left| left < key) && between.right.is_none_or(|right| key < right)
     };
@@ -92,7 +92,7 @@ fn separators_good(keys: &[PageKey], between: Between) -> bool {
 
 /// "a leaf's keys to rise strictly, not below the nearest on the left, below the nearest on the
 /// right"
-fn leaf_keys_good(keys: &[PageKey], between: Between) -> bool {
+pub fn leaf_keys_good(keys: &[PageKey], between: Between) -> bool {
     let inside = |key: Key| {
         between.left.is_none_or(|left| left <= key) && between.right.is_none_or(|right| key < right)
     };

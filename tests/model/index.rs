@@ -56,7 +56,7 @@ pub fn index(store: &Store, map: &Map, index: u64) -> Outcome<Entry> {
 
 /// "the child is chosen by the recorded counts, left to right": the child and what is left of an
 /// index that is below their total.
-fn child_at(children: &[Child], index: u64) -> (u64, u64) {
+pub fn child_at(children: &[Child], index: u64) -> (u64, u64) {
     let mut left = index;
     for child in children {
         if left < child.count {
@@ -68,7 +68,7 @@ fn child_at(children: &[Child], index: u64) -> (u64, u64) {
 }
 
 /// "the root's n or the sum of its recorded counts"
-fn total(page: &Page) -> u64 {
+pub fn total(page: &Page) -> u64 {
     match &page.body {
         Body::Leaf(values) => values.len() as u64,
         Body::Inner(children) => children.iter().map(|child| child.count).sum(),

@@ -49,7 +49,7 @@ impl<'a> Line<'a> {
 }
 
 /// "each a name of 1 to 16 ASCII letters, a colon, and 1 to 16 digits"
-fn field(part: &[u8]) -> Option<(&[u8], u64)> {
+pub fn field(part: &[u8]) -> Option<(&[u8], u64)> {
     let colon = part.iter().position(|&byte| byte == b':')?;
     let (name, value) = (&part[..colon], &part[colon + 1..]);
     let named = (1..=16).contains(&name.len()) && name.iter().all(u8::is_ascii_alphabetic);

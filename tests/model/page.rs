@@ -13,7 +13,7 @@
 
 use super::bytes::{big_endian, part, variable};
 use super::chunk::Chunk;
-use super::image::{Span, BLOCK};
+use super::image::{Image, Span, BLOCK};
 use super::key::{key_at, well_formed, Key, Kind};
 use super::locate::Store;
 use super::map::Map;
@@ -77,8 +77,18 @@ pub fn read<'a>(
     }
     let position = Position::of(number);
     let chunk = store.locate(position.chunk, left)?;
-    let span = place(store, &chunk, &position)?;
-    let bytes = store.image.bytes_of(span);
+    read_in(&store.image, &chunk, map, &position)
+}
+
+/// The rest of it, in a chunk that is located: place, check, fields.
+pub fn read_in<'a>(
+    image: &Image<'a>,
+    chunk: &Chunk,
+    map: &Map,
+    position: &Position,
+) -> Outcome<Page<'a>> {
+    let span = place(image, chunk, position)?;
+    let bytes = image.bytes_of(span);
     let check = check_value(position.chunk, position.offset, span.length);
     if big_endian(bytes, 4, 2) != Some(check) {
         return Err(CHECK_VALUE);
@@ -89,14 +99,14 @@ pub fn read<'a>(
 /// "A page begins at its offset, not before the byte after the chunk header's newline nor less
 /// than 9 bytes before the footer. length (4 bytes, at least 9, within the code's bound, ending no
 /// later than the footer begins)".
-fn place(store: &Store, chunk: &Chunk, position: &Position) -> Outcome<Span> {
+pub fn place(image: &Image, chunk: &Chunk, position: &Position) -> Outcome<Span> {
     let after_header = position.offset > chunk.newline;
     let before_footer = position.offset + LEAST_LENGTH <= chunk.footer();
     if !(after_header && before_footer) {
         return Err(OUT_OF_PLACE);
     }
     let at = chunk.block * BLOCK + position.offset;
-    let head = store.image.bytes_of(Span { at, length: 4 });
+    let head = image.bytes_of(Span { at, length: 4 });
     let length = big_endian(head, 0, 4).ok_or(OUT_OF_PLACE)?;
     let within = bound(position.code).is_none_or(|most| length <= most);
     let ends = position.offset + length <= chunk.footer();
