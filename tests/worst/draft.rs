@@ -2,7 +2,8 @@
 
 use crate::build::line::{LinePlan, Sum};
 use crate::build::page::{smallest_code, variable};
-use crate::build::tree::MapPlan;
+use crate::build::tree::{Entries, MapPlan};
+use crate::family::standard::METADATA_PLAN;
 use crate::model::image::BLOCK;
 use crate::model::line::{CHUNK_HEADER, FOOTER};
 use crate::model::position::{check_value, Position};
@@ -55,6 +56,7 @@ pub fn push_text(bytes: &mut Vec<u8>, text: &[u8]) {
 
 struct Chunk {
     id: u64,
+    version: u64,
     block: u64,
     len: u64,
     next: u64,
@@ -79,7 +81,7 @@ impl Draft {
     pub fn add_chunk(&mut self) -> usize {
         let (number, block) = (self.chunks.len(), self.blocks());
         let (id, free) = (FIRST_ID + number as u64, self.newline() + 1);
-        self.chunks.push(Chunk { id, block, len: 1, next: block + 1, free });
+        self.chunks.push(Chunk { id, version: id, block, len: 1, next: block + 1, free });
         self.bytes.resize(self.bytes.len() + BLOCK as usize, 0);
         number
     }
@@ -106,23 +108,34 @@ impl Draft {
     pub fn put(&mut self, chunk: usize, body: &Body) -> u64 {
         let head = [variable(body.map), variable(body.n), vec![body.type_bit as u8]].concat();
         let length = (6 + head.len() + body.bytes.len()) as u64;
-        self.grow(chunk, length);
-        let Chunk { id, block, ref mut free, .. } = self.chunks[chunk];
-        let offset = *free;
-        *free += length;
-        let at = (block * BLOCK + offset) as usize;
+        let Chunk { id, free: offset, .. } = self.chunks[chunk];
         let check = check_value(id, offset, length) as u16;
-        let parts = [&(length as u32).to_be_bytes()[..], &check.to_be_bytes(), &head, &body.bytes];
-        parts.iter().fold(at, |at, part| {
-            self.bytes[at..at + part.len()].copy_from_slice(part);
-            at + part.len()
-        });
-        let code = smallest_code(length);
-        let position = Position { chunk: id, offset, code, kind: body.type_bit };
-        position.number().expect("a written page's position fits its widths")
+        self.put_bytes(chunk, &(length as u32).to_be_bytes());
+        self.put_bytes(chunk, &check.to_be_bytes());
+        self.put_bytes(chunk, &head);
+        self.put_bytes(chunk, &body.bytes);
+        position_of(chunk, offset, smallest_code(length), body.type_bit)
     }
 
-    /// Makes room for a page; only the last chunk can take more blocks.
+    pub fn put_bytes(&mut self, chunk: usize, bytes: &[u8]) {
+        self.grow(chunk, bytes.len() as u64);
+        let Chunk { block, ref mut free, .. } = self.chunks[chunk];
+        let at = block * BLOCK + *free;
+        *free += bytes.len() as u64;
+        self.write(at, bytes);
+    }
+
+    /// Where the next page goes.
+    pub fn free(&self, chunk: usize) -> u64 {
+        self.chunks[chunk].free
+    }
+
+    /// Leaves room before the next page.
+    pub fn skip_to(&mut self, chunk: usize, offset: u64) {
+        self.chunks[chunk].free = offset;
+    }
+
+    /// Makes room for bytes; only the last chunk can take more blocks.
     fn grow(&mut self, chunk: usize, length: u64) {
         let last = chunk + 1 == self.chunks.len();
         let drafted = &mut self.chunks[chunk];
@@ -135,34 +148,58 @@ impl Draft {
         }
     }
 
-    /// The image: the newest chunk has the metadata's root, the file headers name another or it.
-    pub fn image(mut self, newest: usize, root: u64, named: usize) -> Vec<u8> {
+    /// A metadata leaf with the entries of chunks and the name and root of map 1: its position.
+    pub fn metadata(&mut self, newest: usize, chunks: &[usize], forces: u64) -> u64 {
+        let mut entries: Entries = chunks.iter().map(|&chunk| self.entry(chunk)).collect();
+        entries.extend(names(forces));
+        self.put(newest, &Body::leaf(METADATA_PLAN, &entries))
+    }
+
+    /// The image: the newest chunk has the metadata's root, and the file headers name it.
+    pub fn image(self, newest: usize, root: u64) -> Vec<u8> {
+        self.named(newest, root, newest)
+    }
+
+    /// The same with the oldest chunk at the end. Both starts are the oldest, so that opening goes
+    /// from chunk to chunk to the newest.
+    pub fn chained(mut self, newest: usize, root: u64) -> Vec<u8> {
+        let oldest = self.add_chunk();
+        self.chunks[oldest].version = 1;
+        self.chunks[oldest].next = self.chunks[0].block;
+        self.named(newest, root, oldest)
+    }
+
+    fn named(mut self, newest: usize, root: u64, named: usize) -> Vec<u8> {
         for number in 0..self.chunks.len() {
             self.write_lines(number, if number == newest { root } else { 0 });
         }
-        let Chunk { id, block, .. } = self.chunks[named];
+        let Chunk { id, version, block, .. } = self.chunks[named];
         let fixed = [("H", 2), ("blockSize", 0x1000), ("format", 1)];
-        let names = [("block", block), ("chunk", id), ("version", id)];
-        let line = LinePlan::new(&[&fixed[..], &names[..]].concat(), Sum::Xor(0));
+        let names = [("block", block), ("chunk", id), ("version", version)];
+        let mut line = LinePlan::new(&[&fixed[..], &names[..]].concat(), Sum::Xor(0));
+        if self.long_lines {
+            let room = BLOCK as usize - 1 - line.text().len();
+            line.fields.splice(0..0, fillers(room));
+        }
         self.write(0, &line.bytes().0);
         self.write(BLOCK, &line.bytes().0);
         self.bytes
     }
 
-    /// A chunk's header and footer lines; its version is its id.
+    /// A chunk's header and footer lines.
     fn write_lines(&mut self, number: usize, root: u64) {
-        let Chunk { id, block, len, next, .. } = self.chunks[number];
-        let named = [("chunk", id), ("block", block), ("version", id)];
+        let Chunk { id, version, block, len, next, .. } = self.chunks[number];
+        let named = [("chunk", id), ("block", block), ("version", version)];
         let rest = [("len", len), ("next", next), ("pages", 1), ("root", root)];
-        let mut text = LinePlan::new(&[&named[..], &rest[..]].concat(), Sum::None).text();
+        let mut header = LinePlan::new(&[&named[..], &rest[..]].concat(), Sum::None);
         if self.long_lines {
-            text = filled(&text, CHUNK_HEADER as usize - 1);
+            let room = CHUNK_HEADER as usize - 1 - header.text().len();
+            header.fields.splice(0..0, fillers(room));
         }
-        text.resize(self.newline() as usize, b' ');
-        text.push(b'\n');
-        let footer = LinePlan::new(&named, Sum::Xor(0)).bytes().0;
-        self.write(block * BLOCK, &text);
-        self.write((block + len) * BLOCK - FOOTER, &footer);
+        header.newline_from = self.newline() as usize;
+        let footer = LinePlan::new(&named, Sum::Xor(0));
+        self.write(block * BLOCK, &header.bytes().0);
+        self.write((block + len) * BLOCK - FOOTER, &footer.bytes().0);
     }
 
     fn write(&mut self, at: u64, bytes: &[u8]) {
@@ -170,28 +207,34 @@ impl Draft {
     }
 }
 
-/// A line with as many short unknown names before its fields as fit in so many bytes.
-pub fn filled(fields: &[u8], length: usize) -> Vec<u8> {
-    let mut text = Vec::new();
-    for name in names() {
-        if text.len() + name.len() + 3 + fields.len() > length {
-            break;
-        }
-        text.extend(name);
-        text.extend(b":0,");
-    }
-    text.extend(fields);
-    text
+/// The position of a page, by its chunk's number.
+pub fn position_of(chunk: usize, offset: u64, code: u64, type_bit: u64) -> u64 {
+    let position = Position { chunk: FIRST_ID + chunk as u64, offset, code, kind: type_bit };
+    position.number().expect("a written page's position fits its widths")
+}
+
+/// The name and the root of map 1.
+pub fn names(root: u64) -> Entries {
+    let root = format!("{root:x}").into_bytes();
+    vec![(b"name.forces".to_vec(), b"1".to_vec()), (b"root.1".to_vec(), root)]
+}
+
+/// As many fields of short unknown names as fit in front of others in so many bytes.
+pub fn fillers(room: usize) -> Vec<(String, String)> {
+    let mut left = room;
+    let fits = |name: &String| {
+        // The name, a colon, a digit and a comma.
+        let more = left.checked_sub(name.len() + 3);
+        left = more.unwrap_or(0);
+        more.is_some()
+    };
+    unknown_names().take_while(fits).map(|name| (name, "0".to_string())).collect()
 }
 
 /// Different names, the shortest first; none is one that a reader knows.
-fn names() -> impl Iterator<Item = Vec<u8>> {
-    let letters = || (b'a'..=b'z').chain((b'A'..=b'Z').filter(|&letter| letter != b'H'));
-    let one = letters().map(|a| vec![a]);
-    let two = letters().flat_map(move |a| letters().map(move |b| vec![a, b]));
-    let three = letters().flat_map(move |a| {
-        letters()
-            .flat_map(move |b| letters().map(move |c| vec![a, b, c]).filter(|name| name != b"len"))
-    });
-    one.chain(two).chain(three)
+fn unknown_names() -> impl Iterator<Item = String> {
+    let letters = || ('a'..='z').chain('A'..='Z').map(String::from);
+    let two = move || letters().flat_map(move |a| letters().map(move |b| a.clone() + &b));
+    let three = letters().flat_map(move |a| two().map(move |b| a.clone() + &b));
+    letters().chain(two()).chain(three).filter(|name| name != "H" && name != "len")
 }

@@ -2,8 +2,7 @@
 
 use super::draft::{Body, Draft};
 use super::{Worst, FORCES_PLAN};
-use crate::build::tree::{number_key, Entries};
-use crate::family::standard::METADATA_PLAN;
+use crate::build::tree::number_key;
 use crate::model::image::BLOCK;
 use crate::model::page::DEEPEST;
 
@@ -49,8 +48,8 @@ impl Many {
         let first = |i: usize| number_key((i * fan_out) as i64);
         let separators: Vec<_> = (1..inner).map(first).collect();
         let forces = self.draft.put(self.newest, &Body::inner(FORCES_PLAN, &children, &separators));
-        let root = self.metadata(forces);
-        let image = self.draft.image(self.newest, root, self.newest);
+        let root = self.draft.metadata(self.newest, &self.chunks, forces);
+        let image = self.draft.image(self.newest, root);
         let entries = (inner * fan_out) as u64;
         let mut places = vec![inner as u64 - 1, count - 1];
         places.resize(2 + path, 0);
@@ -82,12 +81,5 @@ impl Many {
         let chunk = self.chunks[self.pages % self.chunks.len()];
         self.pages += 1;
         self.draft.put(chunk, body)
-    }
-
-    fn metadata(&mut self, forces: u64) -> u64 {
-        let mut entries: Entries = self.chunks.iter().map(|&c| self.draft.entry(c)).collect();
-        entries.push((b"name.forces".to_vec(), b"1".to_vec()));
-        entries.push((b"root.1".to_vec(), format!("{forces:x}").into_bytes()));
-        self.draft.put(self.newest, &Body::leaf(METADATA_PLAN, &entries))
     }
 }

@@ -1,6 +1,6 @@
 //! A metadata leaf of half the image, which is read for each of the chunks in the other half.
 
-use super::draft::{push_text, Body, Draft};
+use super::draft::{names, push_text, Body, Draft};
 use super::{Worst, FORCES_PLAN};
 use crate::build::tree::{number_key, Entries};
 use crate::family::standard::METADATA_PLAN;
@@ -19,11 +19,10 @@ pub fn wide_leaf(size: usize) -> Worst {
     let newest = draft.add_chunk();
     let forces = scattered(&mut draft, &numbers, newest);
     let mut entries: Entries = numbers.iter().map(|&chunk| draft.entry(chunk)).collect();
-    entries.push((b"name.forces".to_vec(), b"1".to_vec()));
-    entries.push((b"root.1".to_vec(), format!("{forces:x}").into_bytes()));
+    entries.extend(names(forces));
     let empty = (size / 2 - 4 * BLOCK as usize) / EMPTY_ENTRY;
     let root = draft.put(newest, &wide(empty, &entries));
-    let image = draft.image(newest, root, newest);
+    let image = draft.image(newest, root);
     let last = chunks as u64 - 1;
     Worst::forces(image, last as i64, last, &[last, 0], format!("report {chunks} {} 2", chunks + 1))
 }

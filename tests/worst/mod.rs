@@ -5,21 +5,27 @@
 //! |---|---|
 //! | `draft`    | an image under construction |
 //! | `nested`   | locating one chunk needs 15 others, eight deep |
-//! | `lines`    | lines of as many names as fit |
-//! | `metadata` | wide pages of the metadata, read for each chunk |
+//! | `chain`    | opening goes through every chunk |
+//! | `metadata` | a wide leaf of the metadata, read for each chunk |
+//! | `wide`     | long pages with the entry at their end |
+//! | `deep`     | trees of depth 16; inner pages with one child many times |
 //! | `many`     | as many pages as fit |
+//! | `overlap`  | pages that share their bytes |
 //! | `count`, `ask` | a reader that counts what a call needs |
 //! | `table`    | the table of `tests/run --worst` |
 
 pub mod ask;
+mod chain;
 pub mod count;
+mod deep;
 mod draft;
-mod lines;
 mod many;
 mod metadata;
 mod nested;
+mod overlap;
 #[cfg(archive)]
 pub mod table;
+mod wide;
 
 use crate::build::tree::MapPlan;
 use crate::family::questions::{find, state, FORCES};
@@ -51,14 +57,31 @@ pub struct Named {
 
 const SIZES: &[usize] = &[1, 4, 16];
 
-pub const ALL: [Named; 7] = [
-    Named { name: "nested", maker: nested::nested, sizes: SIZES },
-    Named { name: "nested-lines", maker: nested::nested_lines, sizes: SIZES },
-    Named { name: "wide-inner", maker: nested::wide_inner, sizes: SIZES },
-    Named { name: "wide-leaf", maker: metadata::wide_leaf, sizes: SIZES },
-    Named { name: "long-values", maker: lines::long_values, sizes: SIZES },
-    Named { name: "many-leaves", maker: many::leaves, sizes: SIZES },
-    Named { name: "many-paths", maker: many::paths, sizes: SIZES },
+const TO_40: &[usize] = &[1, 4, 16, 40];
+
+const fn named(name: &'static str, maker: Maker) -> Named {
+    Named { name, maker, sizes: SIZES }
+}
+
+pub const ALL: [Named; 18] = [
+    named("nested", nested::nested),
+    named("nested-lines", nested::long_lines),
+    named("nested-values", nested::long_values),
+    named("nested-wide", nested::wide_inner),
+    named("wide-metadata", metadata::wide_leaf),
+    Named { sizes: TO_40, ..named("chain", chain::chain) },
+    Named { sizes: TO_40, ..named("chain-lines", chain::long_lines) },
+    named("number-leaf", wide::number),
+    named("megabyte-leaves", wide::megabytes),
+    named("long-text-leaf", wide::long_text),
+    named("short-text-leaf", wide::short_text),
+    named("empty-text-leaf", wide::empty_text),
+    named("deep", deep::deep),
+    named("shared-children", deep::shared),
+    named("many-leaves", many::leaves),
+    named("many-paths", many::paths),
+    named("overlap", overlap::paths),
+    named("overlap-chunks", overlap::chunks),
 ];
 
 impl Worst {

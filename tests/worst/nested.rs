@@ -1,13 +1,14 @@
 //! Metadata whose paths lie in chunks that are themselves to be located: each question opens 15
 //! others, eight deep, and no chunk is needed twice in a row.
 
-use super::draft::{Body, Draft};
+use super::draft::{fillers, names, Body, Draft};
 use super::{Worst, FORCES_PLAN};
+use crate::build::line::{LinePlan, Sum};
 use crate::build::tree::{number_key, Entries};
 use crate::family::standard::METADATA_PLAN;
 use crate::model::image::BLOCK;
 use crate::model::locate::QUESTIONS;
-use crate::model::page::DEEPEST;
+use crate::model::page::{DEEPEST, LONGEST_VALUE};
 
 /// The layers of chunks: one of layer l takes l questions.
 const LAYERS: usize = QUESTIONS as usize;
@@ -16,74 +17,101 @@ const PATH: usize = DEEPEST as usize - 1;
 /// An empty separator with its child and recorded count.
 const EMPTY_SEPARATOR: usize = 8 + 1 + 1;
 
+#[derive(Clone, Copy, Default)]
+struct Options {
+    /// How many empty separators the metadata's root begins with.
+    empty: usize,
+    /// Chunk header lines of 1,023 bytes, file header lines of 4,095.
+    long_lines: bool,
+    /// The metadata's line of each chunk is as long as a value may be.
+    long_values: bool,
+    /// Opening goes through all chunks too.
+    chained: bool,
+}
+
 pub fn nested(size: usize) -> Worst {
-    Nested::new(size, 0, false).worst()
+    Nested::new(size, Options::default()).worst()
 }
 
-/// The same with chunk header lines of 1,023 bytes.
-pub fn nested_lines(size: usize) -> Worst {
-    Nested::new(size, 0, true).worst()
+/// No name may occur twice in a line, so that a reader compares the names of long ones.
+pub fn long_lines(size: usize) -> Worst {
+    Nested::new(size, Options { long_lines: true, chained: true, ..Options::default() }).worst()
 }
 
-/// The same with half of the image in the metadata's root, which each question reads: empty
-/// separators come before all others.
+pub fn long_values(size: usize) -> Worst {
+    Nested::new(size, Options { long_values: true, ..Options::default() }).worst()
+}
+
+/// Half of the image is the metadata's root, which each question reads.
 pub fn wide_inner(size: usize) -> Worst {
-    Nested::new(size, size / 2 / EMPTY_SEPARATOR, false).worst()
+    let empty = size / 2 / EMPTY_SEPARATOR;
+    Nested::new(size, Options { empty, ..Options::default() }).worst()
 }
 
 struct Nested {
     draft: Draft,
+    options: Options,
     /// The numbers of the chunks of each layer; layer 0 is the newest chunk alone.
     layers: Vec<Vec<usize>>,
-    empty: usize,
 }
 
 impl Nested {
-    fn new(size: usize, empty: usize, long_lines: bool) -> Nested {
-        let mut draft = Draft::new(long_lines);
+    fn new(size: usize, options: Options) -> Nested {
+        let mut draft = Draft::new(options.long_lines);
         let mut layers = vec![Vec::new()];
-        for width in widths(chunks_in(size, empty)) {
+        for width in widths(chunks_in(size, options)) {
             layers.push((0..width).map(|_| draft.add_chunk()).collect());
         }
         layers[0].push(draft.add_chunk());
-        Nested { draft, layers, empty }
+        Nested { draft, options, layers }
     }
 
     fn worst(mut self) -> Worst {
         let forces = self.forces();
+        let mut separators: Vec<Vec<u8>> = vec![Vec::new(); self.options.empty];
         let mut paths: Vec<(u64, u64)> = Vec::new();
-        let mut separators: Vec<Vec<u8>> = Vec::new();
         for layer in 1..=LAYERS {
             for number in 0..self.layers[layer].len() {
-                let entry = self.draft.entry(self.layers[layer][number]);
-                separators.push(entry.0.clone());
+                let entry = self.entry(self.layers[layer][number]);
+                if number > 0 || layer > 1 {
+                    separators.push(entry.0.clone());
+                }
                 paths.push((self.path(layer - 1, number * PATH, vec![entry]), 1));
             }
         }
-        let names: Entries = vec![
-            (b"name.forces".to_vec(), b"1".to_vec()),
-            (b"root.1".to_vec(), format!("{forces:x}").into_bytes()),
-        ];
+        let names = names(forces);
         separators.push(names[0].0.clone());
         paths.push((self.path(LAYERS, 0, names), 2));
-        let mut children = vec![paths[0]; self.empty];
-        children.extend(paths);
-        let mut keys = vec![Vec::new(); self.empty];
-        keys.extend(separators.into_iter().skip(1));
+        let children = [vec![paths[0]; self.options.empty], paths].concat();
         let newest = self.layers[0][0];
-        let root = self.draft.put(newest, &Body::inner(METADATA_PLAN, &children, &keys));
-        let image = self.draft.image(newest, root, newest);
+        let root = self.draft.put(newest, &Body::inner(METADATA_PLAN, &children, &separators));
+        let chained = self.options.chained;
+        let image = if chained { Draft::chained } else { Draft::image };
+        let image = image(self.draft, newest, root);
         Worst::forces(image, 7, 0, &[0; PATH + 1], format!("report 1 {DEEPEST} {DEEPEST}"))
     }
 
-    /// A path of metadata pages to a leaf, each page in another chunk of the layer.
+    fn entry(&self, chunk: usize) -> (Vec<u8>, Vec<u8>) {
+        let (key, line) = self.draft.entry(chunk);
+        if !self.options.long_values {
+            return (key, line);
+        }
+        let mut long = LinePlan::new(&[], Sum::None);
+        long.fields = fillers(LONGEST_VALUE as usize - line.len());
+        (key, [long.text(), b",".to_vec(), line].concat())
+    }
+
+    /// A path of metadata pages to a leaf, each page in another chunk of the layer; a long leaf is
+    /// in the newest.
     fn path(&mut self, layer: usize, first: usize, entries: Entries) -> u64 {
         let count = entries.len() as u64;
         let chunk = |layers: &[Vec<usize>], page: usize| {
             layers[layer][(first + page) % layers[layer].len()]
         };
         let leaf = Body::leaf(METADATA_PLAN, &entries);
-        let mut position = self.draft.put(chunk(&self.layers, PATH - 1), &leaf);
+        let long = leaf.bytes.len() > BLOCK as usize;
+        let lowest = if long { self.layers[0][0] } else { chunk(&self.layers, PATH - 1) };
+        let mut position = self.draft.put(lowest, &leaf);
         for page in (0..PATH - 1).rev() {
             let inner = Body::inner(METADATA_PLAN, &[(position, count)], &[]);
             position = self.draft.put(chunk(&self.layers, page), &inner);
@@ -119,12 +147,13 @@ fn widths(chunks: usize) -> [usize; LAYERS] {
 }
 
 /// How many chunks of one block fit in the image beside the newest.
-fn chunks_in(size: usize, empty: usize) -> usize {
+fn chunks_in(size: usize, options: Options) -> usize {
     let blocks = size / BLOCK as usize;
     let fits = |chunks: &usize| {
-        let root = (chunks + 1) * (8 + 1 + 11) + empty * EMPTY_SEPARATOR;
+        let root = (chunks + 1) * (8 + 1 + 11) + options.empty * EMPTY_SEPARATOR;
         let paths = widths(*chunks)[0] * (PATH * 18 + 20);
-        chunks + (root + paths).div_ceil(BLOCK as usize) + 4 <= blocks
+        let values = if options.long_values { chunks * (LONGEST_VALUE as usize + 32) } else { 0 };
+        chunks + (root + paths + values).div_ceil(BLOCK as usize) + 5 <= blocks
     };
     (1..blocks).rev().find(fits).expect("the image has room for a chunk")
 }

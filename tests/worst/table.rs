@@ -24,7 +24,7 @@ const LONG: f64 = 3.0;
 
 pub fn print(all: &[&Named]) -> io::Result<()> {
     println!(
-        "{:<14} {:>9} {:<8} {:>9} {:>9} {:>9} {:>9} {:>9}  answer",
+        "{:<15} {:>9} {:<8} {:>9} {:>9} {:>9} {:>9} {:>9}  answer",
         "image", "bytes", "call", "questions", "pages", "bound", "MB read", "ms"
     );
     for named in all {
@@ -53,7 +53,7 @@ fn row(name: &str, worst: &Worst, question: &Question, limit: Duration) -> io::R
     let differs = asked.as_ref().is_some_and(|(_, answer)| *answer != needed.to_string());
     let agrees = if differs { " (DIFFERS)" } else { "" };
     println!(
-        "{name:<14} {:>9} {:<8} {:>9} {:>9} {:>9} {:>9.1} {time:>9}  {}{agrees}",
+        "{name:<15} {:>9} {:<8} {:>9} {:>9} {:>9} {:>9.1} {time:>9}  {}{agrees}",
         worst.image.len(),
         call.name(),
         work.questions,

@@ -1,0 +1,28 @@
+//! As many chunks as fit, through which opening goes one by one.
+
+use super::draft::{Body, Draft};
+use super::{Worst, FORCES_PLAN};
+use crate::build::tree::number_key;
+use crate::model::image::BLOCK;
+
+pub fn chain(size: usize) -> Worst {
+    chained(size, false)
+}
+
+/// The same with chunk header lines of 1,023 bytes.
+pub fn long_lines(size: usize) -> Worst {
+    chained(size, true)
+}
+
+fn chained(size: usize, long_lines: bool) -> Worst {
+    let mut draft = Draft::new(long_lines);
+    // The file headers, the newest and the oldest take a block each.
+    for _ in 0..size / BLOCK as usize - 4 {
+        draft.add_chunk();
+    }
+    let newest = draft.add_chunk();
+    let leaf = Body::leaf(FORCES_PLAN, &[(number_key(7), vec![7; 24])]);
+    let forces = draft.put(newest, &leaf);
+    let root = draft.metadata(newest, &[], forces);
+    Worst::forces(draft.chained(newest, root), 7, 0, &[0], "report 1 1 1".to_string())
+}
