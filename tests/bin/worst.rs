@@ -1,26 +1,29 @@
-//! `worst` prints the table of the worst images; `worst NAME` the rows of one; `worst NAME SIZE FILE`
-//! writes that one of so many MB. `worst --ask QUESTION` is the process of one call.
+//! `worst` prints the table of the worst images; `worst NAME` the rows of one; `worst NAME MB FILE`
+//! writes that one of so many MB; `worst --short` is their part of the short run. `worst --ask
+//! TIMES QUESTION` is the process of one call.
 
 #[cfg(archive)]
-fn main() -> std::io::Result<()> {
+fn main() -> std::io::Result<std::process::ExitCode> {
+    use std::process::ExitCode;
     use std::{env, fs};
-    use vihtumora_tests::worst::table::{answer, print, MEGABYTE};
-    use vihtumora_tests::worst::{Named, ALL};
+    use vihtumora_tests::worst::{asked, short, table, Named, ALL, MEGABYTE};
 
     let words: Vec<String> = env::args().skip(1).collect();
     let words: Vec<&str> = words.iter().map(String::as_str).collect();
-    let named =
-        |name: &str| ALL.iter().find(|named| named.name == name).expect("a worst image's name");
+    let named = |name: &str| ALL.iter().find(|named| named.name == name).expect("an image's name");
     match words[..] {
-        [] => print(&ALL.iter().collect::<Vec<&Named>>()),
-        ["--ask", question] => answer(question),
-        [name] => print(&[named(name)]),
+        [] => table::print(&ALL.iter().collect::<Vec<&Named>>())?,
+        ["--short"] if !short::run()? => return Ok(ExitCode::FAILURE),
+        ["--short"] => {}
+        ["--ask", times, question] => asked::answer(times, question)?,
+        [name] => table::print(&[named(name)])?,
         [name, size, file] => {
             let megabytes: usize = size.parse().expect("a size in MB");
-            fs::write(file, (named(name).maker)(megabytes * MEGABYTE).image)
+            fs::write(file, (named(name).maker)(megabytes * MEGABYTE).image)?;
         }
-        _ => panic!("usage: worst [NAME | NAME SIZE FILE | --ask QUESTION]"),
+        _ => panic!("usage: worst [NAME | NAME MB FILE | --short | --ask TIMES QUESTION]"),
     }
+    Ok(ExitCode::SUCCESS)
 }
 
 #[cfg(not(archive))]

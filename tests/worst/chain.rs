@@ -16,13 +16,11 @@ pub fn long_lines(size: usize) -> Worst {
 
 fn chained(size: usize, long_lines: bool) -> Worst {
     let mut draft = Draft::new(long_lines);
-    // The file headers, the newest and the oldest take a block each.
-    for _ in 0..size / BLOCK as usize - 4 {
-        draft.add_chunk();
-    }
-    let newest = draft.add_chunk();
+    // The file headers and the oldest take a block each.
+    let order: Vec<usize> = (0..size / BLOCK as usize - 3).map(|_| draft.add_chunk()).collect();
+    let newest = order.len() - 1;
     let leaf = Body::leaf(FORCES_PLAN, &[(number_key(7), vec![7; 24])]);
     let forces = draft.put(newest, &leaf);
     let root = draft.metadata(newest, &[], forces);
-    Worst::forces(draft.chained(newest, root), 7, 0, &[0], "report 1 1 1".to_string())
+    Worst::forces(draft.chained(&order, root), 7, 0, &[0], "report 1 1 1".to_string())
 }

@@ -25,10 +25,12 @@ pub struct Work {
     pub bytes: u64,
 }
 
-/// A page that is kept, and whether its keys never fall.
+/// A page that is kept, and the numbers of its keys that are greater than all before them: the first
+/// key that is greater than some key is one of these, and so is the first that is equal to it, if no
+/// greater one comes before.
 pub struct Kept<'a> {
     pub page: Page<'a>,
-    ordered: bool,
+    records: Vec<usize>,
 }
 
 pub struct Reader<'a> {
@@ -74,8 +76,7 @@ impl<'a> Reader<'a> {
             return Ok((kept.clone(), taken));
         }
         let page = read_in(&self.image, &chunk, map, &position)?;
-        let ordered = page.keys.windows(2).all(|pair| pair[0].key <= pair[1].key);
-        let kept = Rc::new(Kept { page, ordered });
+        let kept = Rc::new(Kept { records: records(&page.keys), page });
         if map.id == 0 {
             self.kept.insert(number, kept.clone());
         }
@@ -115,12 +116,10 @@ impl<'a> Reader<'a> {
         loop {
             let (kept, taken) = self.read(map, number, depth, left)?;
             most = most.max(taken);
-            let below = kept.not_greater(key);
             match &kept.page.body {
-                Body::Inner(children) => number = children[below].position,
+                Body::Inner(children) => number = children[kept.not_greater(key)].position,
                 Body::Leaf(values) => {
-                    let first = kept.page.keys[..below].iter().position(|k| k.key == key);
-                    return Ok((first.map(|i| values[i]), most));
+                    return Ok((kept.first_equal(key).map(|i| values[i]), most));
                 }
             }
             depth += 1;
@@ -136,13 +135,27 @@ impl<'a> Reader<'a> {
 impl Kept<'_> {
     /// How many leading keys, up to the first greater one, are not greater.
     fn not_greater(&self, key: Key) -> usize {
-        let not_greater = |k: &PageKey| k.key <= key;
-        if self.ordered {
-            self.page.keys.partition_point(not_greater)
-        } else {
-            self.page.keys.iter().take_while(|k| not_greater(k)).count()
+        let keys = &self.page.keys;
+        let record = self.records.partition_point(|&i| keys[i].key <= key);
+        self.records.get(record).copied().unwrap_or(keys.len())
+    }
+
+    /// The first equal key that comes before any greater one.
+    fn first_equal(&self, key: Key) -> Option<usize> {
+        let keys = &self.page.keys;
+        let record = self.records.partition_point(|&i| keys[i].key < key);
+        self.records.get(record).copied().filter(|&i| keys[i].key == key)
+    }
+}
+
+fn records(keys: &[PageKey]) -> Vec<usize> {
+    let mut records: Vec<usize> = Vec::new();
+    for (i, key) in keys.iter().enumerate() {
+        if records.last().is_none_or(|&last| keys[last].key < key.key) {
+            records.push(i);
         }
     }
+    records
 }
 
 /// The field `block` of a line; the model compares each name with all before it.

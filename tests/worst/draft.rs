@@ -77,12 +77,20 @@ impl Draft {
         Draft { bytes: vec![0; 2 * BLOCK as usize], chunks: Vec::new(), long_lines }
     }
 
-    /// Adds a chunk of one block at the image's end: its number. The last one grows as it needs.
+    /// Adds a chunk of one block at the image's end, where it can grow: its number.
     pub fn add_chunk(&mut self) -> usize {
         let (number, block) = (self.chunks.len(), self.blocks());
         let (id, free) = (FIRST_ID + number as u64, self.newline() + 1);
         self.chunks.push(Chunk { id, version: id, block, len: 1, next: block + 1, free });
         self.bytes.resize(self.bytes.len() + BLOCK as usize, 0);
+        number
+    }
+
+    /// Adds a chunk of one block within another, at the block with that number there.
+    pub fn add_within(&mut self, chunk: usize, block: u64) -> usize {
+        let (number, block) = (self.chunks.len(), self.chunks[chunk].block + block);
+        let (id, free) = (FIRST_ID + number as u64, self.newline() + 1);
+        self.chunks.push(Chunk { id, version: id, block, len: 1, next: block + 1, free });
         number
     }
 
@@ -125,6 +133,11 @@ impl Draft {
         self.write(at, bytes);
     }
 
+    /// Writes bytes where there is something already.
+    pub fn write_over(&mut self, chunk: usize, offset: u64, bytes: &[u8]) {
+        self.write(self.chunks[chunk].block * BLOCK + offset, bytes);
+    }
+
     /// Where the next page goes.
     pub fn free(&self, chunk: usize) -> u64 {
         self.chunks[chunk].free
@@ -135,13 +148,13 @@ impl Draft {
         self.chunks[chunk].free = offset;
     }
 
-    /// Makes room for bytes; only the last chunk can take more blocks.
+    /// Makes room for bytes; only a chunk at the image's end can take more blocks.
     fn grow(&mut self, chunk: usize, length: u64) {
-        let last = chunk + 1 == self.chunks.len();
+        let blocks = self.blocks();
         let drafted = &mut self.chunks[chunk];
         let len = (drafted.free + length + FOOTER).div_ceil(BLOCK);
         if len > drafted.len {
-            assert!(last, "chunk {chunk} is full");
+            assert!(drafted.block + drafted.len == blocks, "chunk {chunk} is full");
             drafted.len = len;
             drafted.next = drafted.block + len;
             self.bytes.resize(((drafted.block + len) * BLOCK) as usize, 0);
@@ -160,13 +173,17 @@ impl Draft {
         self.named(newest, root, newest)
     }
 
-    /// The same with the oldest chunk at the end. Both starts are the oldest, so that opening goes
-    /// from chunk to chunk to the newest.
-    pub fn chained(mut self, newest: usize, root: u64) -> Vec<u8> {
+    /// The same with one chunk more at the end, the oldest. Both starts are the oldest, so that
+    /// opening goes through the chunks in this order to the newest.
+    pub fn chained(mut self, order: &[usize], root: u64) -> Vec<u8> {
         let oldest = self.add_chunk();
-        self.chunks[oldest].version = 1;
-        self.chunks[oldest].next = self.chunks[0].block;
-        self.named(newest, root, oldest)
+        let chain = [&[oldest], order].concat();
+        for (version, pair) in chain.windows(2).enumerate() {
+            self.chunks[pair[0]].next = self.chunks[pair[1]].block;
+            self.chunks[pair[1]].version = version as u64 + 1;
+        }
+        self.chunks[oldest].version = 0;
+        self.named(chain[chain.len() - 1], root, oldest)
     }
 
     fn named(mut self, newest: usize, root: u64, named: usize) -> Vec<u8> {

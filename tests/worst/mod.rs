@@ -12,9 +12,13 @@
 //! | `many`     | as many pages as fit |
 //! | `overlap`  | pages that share their bytes |
 //! | `count`, `ask` | a reader that counts what a call needs |
+//! | `asked`    | a call of the exports in a process of its own |
 //! | `table`    | the table of `tests/run --worst` |
+//! | `short`    | small ones in the short run |
 
 pub mod ask;
+#[cfg(archive)]
+pub mod asked;
 mod chain;
 pub mod count;
 mod deep;
@@ -24,6 +28,8 @@ mod metadata;
 mod nested;
 mod overlap;
 #[cfg(archive)]
+pub mod short;
+#[cfg(archive)]
 pub mod table;
 mod wide;
 
@@ -31,6 +37,7 @@ use crate::build::tree::MapPlan;
 use crate::family::questions::{find, state, FORCES};
 use crate::subject::{MapArgs, Question};
 
+pub const MEGABYTE: usize = 1 << 20;
 const FORCES_PLAN: MapPlan = MapPlan { id: 1, kind: 0 };
 
 /// An image, and what is asked about it.
@@ -51,26 +58,40 @@ pub type Maker = fn(usize) -> Worst;
 pub struct Named {
     pub name: &'static str,
     pub maker: Maker,
-    /// The sizes that the table shows, in MB.
+    /// The sizes that the table shows, and the one of the short run, in MB.
     pub sizes: &'static [usize],
+    pub short: usize,
+    /// Whether the model is fast enough on the short one.
+    pub plain: bool,
 }
 
-const SIZES: &[usize] = &[1, 4, 16];
-
-const TO_40: &[usize] = &[1, 4, 16, 40];
-
 const fn named(name: &'static str, maker: Maker) -> Named {
-    Named { name, maker, sizes: SIZES }
+    Named { name, maker, sizes: &[1, 4, 16], short: 2, plain: true }
+}
+
+/// One that the model takes very long for.
+const fn slow(name: &'static str, maker: Maker) -> Named {
+    Named { plain: false, ..named(name, maker) }
+}
+
+/// One whose pages are read many times, and share their bytes.
+const fn shared(name: &'static str, maker: Maker) -> Named {
+    Named { short: 1, ..slow(name, maker) }
+}
+
+/// One of very many chunks: 10,000 in 40 MB.
+const fn longest(name: &'static str, maker: Maker) -> Named {
+    Named { sizes: &[1, 4, 16, 40], ..named(name, maker) }
 }
 
 pub const ALL: [Named; 18] = [
     named("nested", nested::nested),
     named("nested-lines", nested::long_lines),
-    named("nested-values", nested::long_values),
-    named("nested-wide", nested::wide_inner),
-    named("wide-metadata", metadata::wide_leaf),
-    Named { sizes: TO_40, ..named("chain", chain::chain) },
-    Named { sizes: TO_40, ..named("chain-lines", chain::long_lines) },
+    slow("nested-values", nested::long_values),
+    slow("nested-wide", nested::wide_inner),
+    slow("wide-metadata", metadata::wide_leaf),
+    longest("chain", chain::chain),
+    longest("chain-lines", chain::long_lines),
     named("number-leaf", wide::number),
     named("megabyte-leaves", wide::megabytes),
     named("long-text-leaf", wide::long_text),
@@ -80,8 +101,8 @@ pub const ALL: [Named; 18] = [
     named("shared-children", deep::shared),
     named("many-leaves", many::leaves),
     named("many-paths", many::paths),
-    named("overlap", overlap::paths),
-    named("overlap-chunks", overlap::chunks),
+    shared("overlap", overlap::paths),
+    shared("overlap-chunks", overlap::chunks),
 ];
 
 impl Worst {

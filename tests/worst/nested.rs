@@ -85,9 +85,11 @@ impl Nested {
         let children = [vec![paths[0]; self.options.empty], paths].concat();
         let newest = self.layers[0][0];
         let root = self.draft.put(newest, &Body::inner(METADATA_PLAN, &children, &separators));
-        let chained = self.options.chained;
-        let image = if chained { Draft::chained } else { Draft::image };
-        let image = image(self.draft, newest, root);
+        let order: Vec<usize> = (0..=newest).collect();
+        let image = match self.options.chained {
+            true => self.draft.chained(&order, root),
+            false => self.draft.image(newest, root),
+        };
         Worst::forces(image, 7, 0, &[0; PATH + 1], format!("report 1 {DEEPEST} {DEEPEST}"))
     }
 
