@@ -14,7 +14,7 @@ unfoldable pub raised : ℕ → ℕ
 raised x = cond (ltb x (2 ^ 63)) (x + 2 ^ 63) (x - 2 ^ 63)
 
 -- two tests that say the same are equal
-same-test : (a b c d : ℕ) → (a < b → c < d) → (c < d → a < b) → ltb a b ≡ ltb c d
+pub same-test : (a b c d : ℕ) → (a < b → c < d) → (c < d → a < b) → ltb a b ≡ ltb c d
 same-test a b c d f g = go (ltb a b) (ltb c d) refl refl
   where
     go : (p q : Bool) → ltb a b ≡ p → ltb c d ≡ q → ltb a b ≡ ltb c d

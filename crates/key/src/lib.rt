@@ -1,5 +1,6 @@
 // Keys of the two kinds: reading one at a place, judging one that is given, comparing two.
 mod sized;
+mod texts;
 
 use numeral::be64;
 use order::Order;
@@ -9,7 +10,7 @@ ghost use mathlib.Core.Path.{_≡_};
 ghost use mir.Syntax.{w64};
 ghost use mir.Val.{toZ};
 ghost use Rattle.order.specs.Order.{compareInt};
-ghost use Rattle.key.specs.Key.{keyAt, wellFormed, keyOf, textsOrder, compareKeys};
+ghost use Rattle.key.specs.Key.{keyAt, wellFormed, keyOf, compareKeys};
 ghost use Rattle.key.specs.Raised.{raised};
 
 pub enum Kind {
@@ -122,36 +123,12 @@ pub fn compare_numbers(a: u64, b: u64) -> Order
     Order::Equal
 }
 
-fn compare_texts(a: &[u8], b: &[u8]) -> Order
-    ensures { λ r. ⌜ r ≡ textsOrder (now (a .entry)) (now (b .entry)) ⌝ }
-{
-    let mut i = 0;
-    while i < a.len() {
-        if b.len() <= i {
-            return Order::Greater;
-        }
-        let p = a[i];
-        let q = b[i];
-        if p < q {
-            return Order::Less;
-        }
-        if q < p {
-            return Order::Greater;
-        }
-        i += 1;
-    }
-    if b.len() <= i {
-        return Order::Equal;
-    }
-    Order::Less
-}
-
 // How two keys of a kind, given as their bytes, compare.
 pub fn compare(kind: Kind, a: &[u8], b: &[u8]) -> Order
     ensures { λ r. ⌜ r ≡ compareKeys (keyOf kind (now (a .entry))) (keyOf kind (now (b .entry))) ⌝ }
 {
     match kind {
         Kind::Number => compare_numbers(be64(a, 0), be64(b, 0)),
-        Kind::Text => compare_texts(a, b),
+        Kind::Text => texts::compare_texts(a, b),
     }
 }
