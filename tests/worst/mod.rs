@@ -74,19 +74,19 @@ const fn slow(name: &'static str, maker: Maker) -> Named {
     Named { plain: false, ..named(name, maker) }
 }
 
-/// One whose pages are read many times, and share their bytes.
-const fn shared(name: &'static str, maker: Maker) -> Named {
+/// One that takes the reader that counts very long too.
+const fn slowest(name: &'static str, maker: Maker) -> Named {
     Named { short: 1, ..slow(name, maker) }
 }
 
 /// One of very many chunks: 10,000 in 40 MB.
 const fn longest(name: &'static str, maker: Maker) -> Named {
-    Named { sizes: &[1, 4, 16, 40], ..named(name, maker) }
+    Named { sizes: &[1, 4, 16, 40], short: 1, ..named(name, maker) }
 }
 
 pub const ALL: [Named; 18] = [
     named("nested", nested::nested),
-    named("nested-lines", nested::long_lines),
+    slow("nested-lines", nested::long_lines),
     slow("nested-values", nested::long_values),
     slow("nested-wide", nested::wide_inner),
     slow("wide-metadata", metadata::wide_leaf),
@@ -96,13 +96,13 @@ pub const ALL: [Named; 18] = [
     named("megabyte-leaves", wide::megabytes),
     named("long-text-leaf", wide::long_text),
     named("short-text-leaf", wide::short_text),
-    named("empty-text-leaf", wide::empty_text),
+    slowest("empty-text-leaf", wide::empty_text),
     named("deep", deep::deep),
     named("shared-children", deep::shared),
     named("many-leaves", many::leaves),
     named("many-paths", many::paths),
-    shared("overlap", overlap::paths),
-    shared("overlap-chunks", overlap::chunks),
+    slowest("overlap", overlap::paths),
+    slowest("overlap-chunks", overlap::chunks),
 ];
 
 impl Worst {

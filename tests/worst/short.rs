@@ -30,7 +30,9 @@ pub fn run() -> io::Result<bool> {
         let worst = (named.maker)(named.short * MEGABYTE);
         run.images += 1;
         for question in worst.questions() {
-            run.question(named, &worst, &question)?;
+            if !run.question(named, &worst, &question)? {
+                break;
+            }
         }
     }
     println!(
@@ -45,7 +47,8 @@ pub fn run() -> io::Result<bool> {
 }
 
 impl Run {
-    fn question(&mut self, named: &Named, worst: &Worst, question: &Question) -> io::Result<()> {
+    /// False where the call had to be ended, as would the others.
+    fn question(&mut self, named: &Named, worst: &Worst, question: &Question) -> io::Result<bool> {
         let call = format!("{} {}", named.name, question.call().name());
         self.calls += 1;
         self.claim(worst.image.len() <= named.short * MEGABYTE, || format!("{call}: too long"));
@@ -58,7 +61,7 @@ impl Run {
         }
         let Some(asked) = asked(&worst.image, question, EFFORT)? else {
             self.claim(false, || format!("{call}: more than {} s", EFFORT.limit.as_secs()));
-            return Ok(());
+            return Ok(false);
         };
         self.claim(asked.answer == needed, || format!("{call}: {}, due {needed}", asked.answer));
         if named.plain {
@@ -69,7 +72,7 @@ impl Run {
         if asked.seconds > self.slowest {
             (self.slowest, self.slowest_call) = (asked.seconds, call);
         }
-        Ok(())
+        Ok(true)
     }
 
     fn claim(&mut self, holds: bool, what: impl FnOnce() -> String) {
