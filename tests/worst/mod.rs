@@ -37,6 +37,7 @@ use crate::build::tree::MapPlan;
 use crate::family::questions::{find, state, FORCES};
 use crate::subject::{MapArgs, Question};
 
+pub const KILOBYTE: usize = 1 << 10;
 pub const MEGABYTE: usize = 1 << 20;
 const FORCES_PLAN: MapPlan = MapPlan { id: 1, kind: 0 };
 
@@ -58,15 +59,16 @@ pub type Maker = fn(usize) -> Worst;
 pub struct Named {
     pub name: &'static str,
     pub maker: Maker,
-    /// The sizes that the table shows, and the one of the short run, in MB.
+    /// The sizes that the table shows, in MB.
     pub sizes: &'static [usize],
+    /// The size of the short run, in KB.
     pub short: usize,
     /// Whether the model is fast enough on the short one.
     pub plain: bool,
 }
 
 const fn named(name: &'static str, maker: Maker) -> Named {
-    Named { name, maker, sizes: &[1, 4, 16], short: 2, plain: true }
+    Named { name, maker, sizes: &[1, 4, 16], short: 2048, plain: true }
 }
 
 /// One that the model takes very long for.
@@ -76,20 +78,25 @@ const fn slow(name: &'static str, maker: Maker) -> Named {
 
 /// One that takes the reader that counts very long too.
 const fn slowest(name: &'static str, maker: Maker) -> Named {
-    Named { short: 1, ..slow(name, maker) }
+    Named { short: 1024, ..slow(name, maker) }
+}
+
+/// One whose cost grows with the square of its size, or more.
+const fn growing(name: &'static str, maker: Maker) -> Named {
+    Named { short: 400, ..slow(name, maker) }
 }
 
 /// One of very many chunks: 10,000 in 40 MB.
 const fn longest(name: &'static str, maker: Maker) -> Named {
-    Named { sizes: &[1, 4, 16, 40], short: 1, ..named(name, maker) }
+    Named { sizes: &[1, 4, 16, 40], short: 1024, ..named(name, maker) }
 }
 
 pub const ALL: [Named; 18] = [
     named("nested", nested::nested),
     slow("nested-lines", nested::long_lines),
     slow("nested-values", nested::long_values),
-    slow("nested-wide", nested::wide_inner),
-    slow("wide-metadata", metadata::wide_leaf),
+    growing("nested-wide", nested::wide_inner),
+    growing("wide-metadata", metadata::wide_leaf),
     longest("chain", chain::chain),
     longest("chain-lines", chain::long_lines),
     named("number-leaf", wide::number),
@@ -102,7 +109,7 @@ pub const ALL: [Named; 18] = [
     named("many-leaves", many::leaves),
     named("many-paths", many::paths),
     slowest("overlap", overlap::paths),
-    slowest("overlap-chunks", overlap::chunks),
+    growing("overlap-chunks", overlap::chunks),
 ];
 
 impl Worst {

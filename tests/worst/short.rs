@@ -6,7 +6,7 @@ use std::time::Duration;
 use super::ask::ask;
 use super::asked::{asked, Effort};
 use super::table::bound;
-use super::{Named, Worst, ALL, MEGABYTE};
+use super::{Named, Worst, ALL, KILOBYTE};
 use crate::subject::{Call, Question, Reply};
 
 /// The processor time that a call may take, and the time after which it is ended, on a machine with
@@ -27,7 +27,7 @@ struct Run {
 pub fn run() -> io::Result<bool> {
     let mut run = Run::default();
     for named in &ALL {
-        let worst = (named.maker)(named.short * MEGABYTE);
+        let worst = (named.maker)(named.short * KILOBYTE);
         run.images += 1;
         for question in worst.questions() {
             if !run.question(named, &worst, &question)? {
@@ -51,7 +51,7 @@ impl Run {
     fn question(&mut self, named: &Named, worst: &Worst, question: &Question) -> io::Result<bool> {
         let call = format!("{} {}", named.name, question.call().name());
         self.calls += 1;
-        self.claim(worst.image.len() <= named.short * MEGABYTE, || format!("{call}: too long"));
+        self.claim(worst.image.len() <= named.short * KILOBYTE, || format!("{call}: too long"));
         let (needed, work) = ask(&worst.image, question);
         let needed = needed.to_string();
         let most = bound(question.call(), &worst.image);
