@@ -61,13 +61,35 @@ fn skip_words(s: &[u8], n: u64, at: usize) -> Skip
     Skip::Past(at + 8 * n as usize)
 }
 
-fn skip_each(s: &[u8], form: Form, n: u64, at: usize) -> Skip
-    ensures { λ r. ⌜ r ≡ skipped (now (s .entry)) form n at ⌝ }
+// Text keys, and values, in a loop for each, which does not ask for the form of every item.
+fn skip_texts(s: &[u8], n: u64, at: usize) -> Skip
+    ensures { λ r. ⌜ r ≡ skipped (now (s .entry)) Form.Text n at ⌝ }
 {
     let mut left = n;
     let mut i = at;
     while 0 < left {
-        let it = item_at(s, form, i);
+        let it = item_at(s, Form::Text, i);
+        let Sized::At {
+            at: _,
+            len: _,
+            next,
+        } = it
+        else {
+            return Skip::Stuck;
+        };
+        i = next;
+        left -= 1;
+    }
+    Skip::Past(i)
+}
+
+fn skip_values(s: &[u8], n: u64, at: usize) -> Skip
+    ensures { λ r. ⌜ r ≡ skipped (now (s .entry)) Form.Bytes n at ⌝ }
+{
+    let mut left = n;
+    let mut i = at;
+    while 0 < left {
+        let it = item_at(s, Form::Bytes, i);
         let Sized::At {
             at: _,
             len: _,
@@ -86,10 +108,11 @@ fn skip_each(s: &[u8], form: Form, n: u64, at: usize) -> Skip
 pub fn skip_items(s: &[u8], form: Form, n: u64, at: usize) -> Skip
     ensures { λ r. ⌜ r ≡ skipped (now (s .entry)) form n at ⌝ }
 {
-    if let Form::Word = form {
-        return skip_words(s, n, at);
+    match form {
+        Form::Word => skip_words(s, n, at),
+        Form::Text => skip_texts(s, n, at),
+        Form::Bytes => skip_values(s, n, at),
     }
-    skip_each(s, form, n, at)
 }
 
 // Item number `k` of `n`, from 0.

@@ -1,16 +1,17 @@
 use native.Mathlib.Omega.{arith}
 use mathlib.Core.Path.{_≡_, sym, _∙_}
+use Rattle.item.specs.declared.Form.the-variants.{Bytes}
 use Rattle.item.specs.Item.{skipped}
 use Rattle.item.specs.ItemLaws.{skipped-none, skipped-more, skipped-bad}
 use borrow.Author.Needs.{needs}
-use Rattle.item.proofs.skip_each.Statement.{statement}
-use Rattle.item.proofs.skip_each.Tie as tie
+use Rattle.item.proofs.skip_values.Statement.{statement}
+use Rattle.item.proofs.skip_values.Tie as tie
 
 abbrev Inv-loop : tie.InvT-loop
-Inv-loop s form n at left₀ i₀ left i = skipped s form left i ≡ skipped s form n at
+Inv-loop s n at left₀ i₀ left i = skipped s Bytes left i ≡ skipped s Bytes n at
 
 abbrev μ-loop : tie.MeasureT-loop
-μ-loop s form n at left₀ i₀ left i = left
+μ-loop s n at left₀ i₀ left i = left
 
 returns : tie.Need-returns Inv-loop μ-loop
 returns c =
@@ -23,8 +24,8 @@ loop-again c =
 returns-2 : tie.Need-returns-2 Inv-loop μ-loop
 returns-2 c = sym (skipped-none _ _ _ _ (omega arith)) ∙ c .before .loop .inv
 
-pub skip-each-spec : {M : Type 1} → statement M
-skip-each-spec =
+pub skip-values-spec : {M : Type 1} → statement M
+skip-values-spec =
     tie.close
     (tie.spec
     Inv-loop
