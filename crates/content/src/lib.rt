@@ -1,5 +1,8 @@
 // What a judged page holds: child, recorded count, key and value of a number, and a key among its
 // keys. `s` is the image up to the page's end (`page::cut`), so that places in it are places in the image.
+mod numbers;
+mod texts;
+
 use item::Form;
 use key::Kind;
 use key::Sized;
@@ -62,19 +65,10 @@ pub fn probe_key(s: &[u8], kind: Kind, i: usize, key: &[u8]) -> Probe
 pub fn lead_keys(s: &[u8], kind: Kind, n: u32, keys: usize, key: &[u8]) -> u32
     ensures { λ r. ⌜ r ≡ lead compareKeys (keyOf kind (now (key .entry))) (keysIn (now (s .entry)) kind n keys) ⌝ }
 {
-    let mut left = n;
-    let mut i = keys;
-    let mut passed = 0;
-    while 0 < left {
-        let p = probe_key(s, kind, i, key);
-        let Probe::UpTo { next, same: _ } = p else {
-            return passed;
-        };
-        i = next;
-        left -= 1;
-        passed += 1;
+    match kind {
+        Kind::Number => numbers::lead_numbers(s, n, keys, key),
+        Kind::Text => texts::lead_texts(s, n, keys, key),
     }
-    passed
 }
 
 // The position of child number `k`, 0 past the last.
@@ -138,31 +132,10 @@ pub fn pick_child(s: &[u8], n: u32, counts: usize, index: u64) -> Picked
 pub fn find_key(s: &[u8], kind: Kind, n: u32, keys: usize, values: usize, key: &[u8]) -> Found
     ensures { λ r. ⌜ r ≡ foundOf (findIn compareKeys (keyOf kind (now (key .entry))) (entriesIn (now (s .entry)) kind n keys values)) ⌝ }
 {
-    let mut left = n;
-    let mut i = keys;
-    let mut v = values;
-    while 0 < left {
-        let p = probe_key(s, kind, i, key);
-        let Probe::UpTo { next, same } = p else {
-            return Found::Absent;
-        };
-        let it = item::item_at(s, Form::Bytes, v);
-        let Sized::At {
-            at,
-            len,
-            next: after,
-        } = it
-        else {
-            return Found::Absent;
-        };
-        if same {
-            return Found::At { at, len };
-        }
-        i = next;
-        v = after;
-        left -= 1;
+    match kind {
+        Kind::Number => numbers::find_number(s, n, keys, values, key),
+        Kind::Text => texts::find_text(s, n, keys, values, key),
     }
-    Found::Absent
 }
 
 // Entry number `k` of a leaf, from 0.
