@@ -1,5 +1,5 @@
-//! A map over 299 chunks: more than a call of the library remembers (256), so that the last ones are
-//! located anew at each page, some of them by a question inside another.
+//! A map over many chunks. Of 299 a call of the library remembers all; of 4,199 it doesn't (4,096), so
+//! that the last ones are located anew at each page, some of them by a question inside another.
 
 use super::sweep::{sweep, Expected};
 use crate::build::plan::Plan;
@@ -8,44 +8,60 @@ use crate::family::questions::*;
 use crate::family::standard::{chunk_entry, numbered, METADATA_PLAN};
 use crate::subject::Judge;
 
-/// The old chunks; their ids have three digits, so that their entries sort as their numbers do.
-const CHUNKS: usize = 300;
-const FIRST_ID: u64 = 0x100;
-/// Entries of this chunk and those after it lie in the first chunk, which no page of the map needs:
-/// it is not asked for before the chunks in front are located and the memory is full.
-const LATE: usize = 257;
+struct Many {
+    /// The old chunks; their ids have as many digits, so that their entries sort as their numbers do.
+    chunks: usize,
+    first_id: u64,
+    /// Entries of this chunk and those after it lie in the first chunk, which no page of the map needs:
+    /// it is not asked for before the chunks in front are located.
+    late: usize,
+    /// The blocks of the newest chunk, which has the metadata.
+    blocks: u64,
+}
+
+const REMEMBERED: Many = Many { chunks: 300, first_id: 0x100, late: 257, blocks: 16 };
+const TOO_MANY: Many = Many { chunks: 4_200, first_id: 0x1000, late: 4_160, blocks: 160 };
 const FORCES_PLAN: MapPlan = MapPlan { id: 1, kind: 0 };
 
 pub fn check(judge: &mut Judge) {
-    let keys: Vec<i64> = (1..CHUNKS as i64).collect();
-    let (plan, leaves) = many(&keys);
-    let image = plan.image();
-    judge.image("many chunks", &image);
+    let keys: Vec<i64> = (1..REMEMBERED.chunks as i64).collect();
+    let image = many(&REMEMBERED, &keys).0.image();
     let entries = numbered(&keys);
+    judge.image("many chunks", &image);
     sweep(judge, &image, &Expected { map: FORCES, entries: &entries }, "many chunks");
-    for late in [LATE - 2, LATE - 1, LATE, CHUNKS - 2] {
+    faults(judge, &REMEMBERED);
+    faults(judge, &TOO_MANY);
+}
+
+/// The map as it is, and with a fault at some leaves.
+fn faults(judge: &mut Judge, of: &Many) {
+    let keys: Vec<i64> = (1..of.chunks as i64).collect();
+    let (plan, leaves) = many(of, &keys);
+    let whole = judge.ask(&plan.image(), &examine());
+    judge.claim(whole.refusal().is_none(), || format!("many chunks, {}: {whole}", of.chunks));
+    for late in [of.late - 2, of.late - 1, of.late, of.chunks - 2] {
         wrong_check_value(judge, plan.clone(), &leaves[late]);
     }
 }
 
 /// A leaf of one entry in each chunk but the first; the roots in the newest.
-fn many(keys: &[i64]) -> (Plan, Vec<Placed>) {
+fn many(of: &Many, keys: &[i64]) -> (Plan, Vec<Placed>) {
     let mut plan = Plan::new();
-    for id in (FIRST_ID..).take(CHUNKS) {
+    for id in (of.first_id..).take(of.chunks) {
         plan.add_chunk(id, 1, id);
     }
-    let id = FIRST_ID + CHUNKS as u64;
-    let newest = plan.add_chunk(id, 16, id);
+    let id = of.first_id + of.chunks as u64;
+    let newest = plan.add_chunk(id, of.blocks, id);
     plan.name_chunk(newest);
     let leaf = |(i, key): (usize, &i64)| FORCES_PLAN.leaf(&mut plan, i + 1, &numbered(&[*key]));
     let leaves: Vec<Placed> = keys.iter().enumerate().map(leaf).collect();
     let root = FORCES_PLAN.inner(&mut plan, newest, &leaves).page;
-    let chunks: Entries = (0..CHUNKS).map(|chunk| chunk_entry(&plan, chunk)).collect();
+    let chunks: Entries = (0..of.chunks).map(|chunk| chunk_entry(&plan, chunk)).collect();
     let names: Entries = vec![
         (b"name.forces".to_vec(), b"1".to_vec()),
         (b"root.1".to_vec(), format!("{:x}", plan.position(root)).into_bytes()),
     ];
-    let parts = [(newest, &chunks[..LATE]), (0, &chunks[LATE..]), (newest, &names)];
+    let parts = [(newest, &chunks[..of.late]), (0, &chunks[of.late..]), (newest, &names)];
     let metadata = parts.map(|(chunk, part)| METADATA_PLAN.leaf(&mut plan, chunk, part));
     let root = METADATA_PLAN.inner(&mut plan, newest, &metadata).page;
     let position = plan.position(root);
