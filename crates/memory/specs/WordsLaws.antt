@@ -151,38 +151,38 @@ module _ (P : ℕ → Place → ℕ → Type 0) where
   empty-holds n i h f =
       absurd (f (getD-replicate {A = ℕ} n (2 * i) 0 0 (omega (arith, h, length-replicate {A = ℕ} n 0))))
 
-  pub recalled-holds : (ws : List ℕ) → Holds P ws → (c : ℕ) {l : Place} {need : ℕ} → recalledIn ws c ≡ At l need → P c l need
+  pub recalled-at-holds : (ws : List ℕ) → Holds P ws → (c i : ℕ) {l : Place} {need : ℕ} → recalledAt i ws c ≡ At l need → P c l need
   unfolding recalledAt
-  recalled-holds ws holds c {l} {need} e = go (soughtIn ws c) e
+  recalled-at-holds ws holds c i {l} {need} e = past (ltb i (places ws)) refl e
     where
-      go : (i : ℕ) → recalledAt i ws c ≡ At l need → P c l need
-      go i e = past (ltb i (places ws)) refl e
+      w : ℕ
+      w = getD ws (2 * i) 0
+
+      v : ℕ
+      v = getD ws (2 * i + 1) 0
+
+      past : (t : Bool) → ltb i (places ws) ≡ t →
+          cond t (cond (cond (eqb w 0) false (eqb (chunkIn w) c)) (At (placeIn w v) (needIn w))
+          (cond (eqb (getD ws (2 * places ws - 2) 0) 0) (Free i) Full)) Full ≡ At l need → P c l need
+      past false p e = absurd (let z : _≡_ {A = ℕ} 0 1 = cc in omega arith)
+      past true p e = this (eqb w 0) refl (eqb (chunkIn w) c) refl e
         where
-          w : ℕ
-          w = getD ws (2 * i) 0
+          rest : (t : Bool) → cond t (Free i) Full ≡ At l need → P c l need
+          rest true e = absurd (let z : _≡_ {A = ℕ} 0 1 = cc in omega arith)
+          rest false e = absurd (let z : _≡_ {A = ℕ} 0 1 = cc in omega arith)
 
-          v : ℕ
-          v = getD ws (2 * i + 1) 0
+          this : (s : Bool) → eqb w 0 ≡ s → (t : Bool) → eqb (chunkIn w) c ≡ t →
+              cond (cond s false t) (At (placeIn w v) (needIn w)) (cond (eqb (getD ws (2 * places ws - 2) 0) 0) (Free i) Full) ≡ At l need →
+              P c l need
+          this true q t r e = rest (eqb (getD ws (2 * places ws - 2) 0) 0) e
+          this false q false r e = rest (eqb (getD ws (2 * places ws - 2) 0) 0) e
+          this false q true r e =
+              let x : placeIn w v ≡ l = cc in
+              let y : needIn w ≡ need = cc in
+              rw (← eqb-true (chunkIn w) c r, ← x, ← y) (holds i (ltb-true i (places ws) p) (eqb-false w 0 q))
 
-          past : (t : Bool) → ltb i (places ws) ≡ t →
-              cond t (cond (cond (eqb w 0) false (eqb (chunkIn w) c)) (At (placeIn w v) (needIn w))
-              (cond (eqb (getD ws (2 * places ws - 2) 0) 0) (Free i) Full)) Full ≡ At l need → P c l need
-          past false p e = absurd (let z : _≡_ {A = ℕ} 0 1 = cc in omega arith)
-          past true p e = this (eqb w 0) refl (eqb (chunkIn w) c) refl e
-            where
-              rest : (t : Bool) → cond t (Free i) Full ≡ At l need → P c l need
-              rest true e = absurd (let z : _≡_ {A = ℕ} 0 1 = cc in omega arith)
-              rest false e = absurd (let z : _≡_ {A = ℕ} 0 1 = cc in omega arith)
-
-              this : (s : Bool) → eqb w 0 ≡ s → (t : Bool) → eqb (chunkIn w) c ≡ t →
-                  cond (cond s false t) (At (placeIn w v) (needIn w)) (cond (eqb (getD ws (2 * places ws - 2) 0) 0) (Free i) Full) ≡ At l need →
-                  P c l need
-              this true q t r e = rest (eqb (getD ws (2 * places ws - 2) 0) 0) e
-              this false q false r e = rest (eqb (getD ws (2 * places ws - 2) 0) 0) e
-              this false q true r e =
-                  let x : placeIn w v ≡ l = cc in
-                  let y : needIn w ≡ need = cc in
-                  rw (← eqb-true (chunkIn w) c r, ← x, ← y) (holds i (ltb-true i (places ws) p) (eqb-false w 0 q))
+  pub recalled-holds : (ws : List ℕ) → Holds P ws → (c : ℕ) {l : Place} {need : ℕ} → recalledIn ws c ≡ At l need → P c l need
+  recalled-holds ws holds c e = recalled-at-holds ws holds c (soughtIn ws c) e
 
   -- a place that two words hold
   module _ (c : ℕ) (l : Place) (need : ℕ) (block-small : l .block < 2 ^ 28) (first-small : l .first < 2 ^ 32) (few : need < 16) where

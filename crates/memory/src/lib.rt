@@ -4,7 +4,7 @@
 // there is room, and none is kept after that.
 use page::Place;
 ghost use mathlib.Core.Path.{_≡_};
-ghost use Rattle.memory.specs.Words.{belowIn, placeIn, soughtIn, recalledIn, insertedAt, rememberedIn};
+ghost use Rattle.memory.specs.Words.{belowIn, placeIn, soughtIn, recalledAt, recalledIn, insertedAt, rememberedIn};
 
 // As many halvings as any array needs.
 const HALVINGS: u32 = 64;
@@ -37,7 +37,7 @@ fn is_below(w: u64, c: u32) -> bool
 }
 
 // The first place that is free or holds a chunk whose id is not below `c`.
-fn seek(memory: &[u64], c: u32) -> usize
+pub fn seek(memory: &[u64], c: u32) -> usize
     ensures { λ r. ⌜ r ≡ soughtIn (now (memory .entry)) c ⌝ }
 {
     let mut low = 0;
@@ -58,12 +58,11 @@ fn seek(memory: &[u64], c: u32) -> usize
     low
 }
 
-// What is remembered of chunk `c`, or the place where it belongs.
-pub fn recall(memory: &[u64], c: u32) -> Recalled
-    ensures { λ r. ⌜ r ≡ recalledIn (now (memory .entry)) c ⌝ }
+// What the place numbered `i` says of chunk `c`.
+pub fn recall_at(memory: &[u64], i: usize, c: u32) -> Recalled
+    ensures { λ r. ⌜ r ≡ recalledAt i (now (memory .entry)) c ⌝ }
 {
     let n = memory.len() / 2;
-    let i = seek(memory, c);
     if n <= i {
         return Recalled::Full;
     }
@@ -80,6 +79,13 @@ pub fn recall(memory: &[u64], c: u32) -> Recalled
         return Recalled::Full;
     }
     Recalled::Free(i)
+}
+
+// What is remembered of chunk `c`, or the place where it belongs.
+pub fn recall(memory: &[u64], c: u32) -> Recalled
+    ensures { λ r. ⌜ r ≡ recalledIn (now (memory .entry)) c ⌝ }
+{
+    recall_at(memory, seek(memory, c), c)
 }
 
 // Puts two words at the place numbered `i`; what was there and after it moves one place on, up to the
