@@ -10,9 +10,11 @@
 --
 --   begins c o           a page may begin at offset o of the chunk c
 --   lengthFits k n room  a page of length n fits its length code k and the room before the footer
---   leafAt, innerAt      what follows the type byte
---   fieldsAt             the fields from the map id on
---   judgedAt             the page at a position in a chunk, due for a map of a kind
+--   leafAt, innerAt      what follows the type byte of a leaf and of an inner page
+--   bodyAt               what follows the type byte
+--   fieldsAt             the fields from the map id to the type byte
+--   headAt               the head of the page at a position in a chunk, due for a map: all that stands before its items
+--   judgedAt             the page at a position in a chunk, due for a map of a kind: its head, then its items
 -- Depth, child position 0 and the chunk's location are judged before, where pages are asked for.
 use Prim.Native.Nat.{ℕ, _+_, _*_, _-_, _^_}
 use mathlib.Core.List.{List}
@@ -33,6 +35,9 @@ use Rattle.item.specs.declared.Skip.the-variants as skip
 use Rattle.item.specs.declared.Counted.{Counted}
 use Rattle.item.specs.declared.Counted.the-variants as sums
 use Rattle.item.specs.Item.{onNumeral, skipped, counted}
+use Rattle.page.specs.declared.Head.{Head}
+use Rattle.page.specs.declared.Head.the-variants.{Body}
+use Rattle.page.specs.declared.Head.the-variants as head
 use Rattle.page.specs.declared.Judged.{Judged}
 use Rattle.page.specs.declared.Judged.the-variants.{Refused, Leaf, Inner}
 
@@ -89,25 +94,33 @@ bodyAt s type form n i = cond (eqb type 0) (leafAt s form n i) (innerAt s form n
 
 -- "map id and key count n (variable-size, [..] below 2^31); type byte (0 leaf, 1 inner, equal to the position's bit)"; "a map id or
 -- type that reads but isn't the one due is 9". s ends with the page.
-unfoldable pub fieldsAt : List ℕ → ℕ → ℕ → ℕ → Kind → Judged
-fieldsAt s i type map kind =
-    onNumeral (varAt (2 ^ 31) s i) (Refused badContents) (λ m j.
+unfoldable pub fieldsAt : List ℕ → ℕ → ℕ → ℕ → Head
+fieldsAt s i type map =
+    onNumeral (varAt (2 ^ 31) s i) (head.Refused badContents) (λ m j.
     cond (eqb m map)
-    (onNumeral (varAt (2 ^ 31) s j) (Refused badContents) (λ n k.
+    (onNumeral (varAt (2 ^ 31) s j) (head.Refused badContents) (λ n k.
     cond (ltb k (length s))
-    (cond (eqb (getD s k 0) type) (bodyAt s type (keyForm kind) n (k + 1)) (Refused otherMapOrType))
-    (Refused badContents)))
-    (Refused otherMapOrType))
+    (cond (eqb (getD s k 0) type) (Body n (k + 1) (length s)) (head.Refused otherMapOrType))
+    (head.Refused badContents)))
+    (head.Refused otherMapOrType))
 
 -- "place, check, then the fields in file order"
-unfoldable pub judgedAt : List ℕ → Place → ℕ → ℕ → Kind → Judged
-judgedAt image c p map kind =
+unfoldable pub headAt : List ℕ → Place → ℕ → ℕ → Head
+headAt image c p map =
     let at = startOf c + offsetOf p in
     let n = bigEndianAt 4 image at in
     cond (begins c (offsetOf p))
     (cond (lengthFits (codeOf p) n (footerAt c - at))
     (cond (eqb (bigEndianAt 2 image (at + 4)) (checkOf (chunkOf p) (offsetOf p) n))
-    (fieldsAt (take (at + n) image) (at + 6) (typeOf p) map kind)
-    (Refused badCheckValue))
-    (Refused outOfPlace))
-    (Refused outOfPlace)
+    (fieldsAt (take (at + n) image) (at + 6) (typeOf p) map)
+    (head.Refused badCheckValue))
+    (head.Refused outOfPlace))
+    (head.Refused outOfPlace)
+
+abbrev pub onHead : Head → (ℕ → ℕ → ℕ → Judged) → Judged
+onHead (head.Refused r) go = Refused r
+onHead (Body n i e) go = go n i e
+
+-- the head, then the items up to the page's end
+unfoldable pub judgedAt : List ℕ → Place → ℕ → ℕ → Kind → Judged
+judgedAt image c p map kind = onHead (headAt image c p map) (λ n i e. bodyAt (take e image) (typeOf p) (keyForm kind) n i)

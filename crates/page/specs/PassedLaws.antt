@@ -7,16 +7,11 @@ use mathlib.Core.Path.{_≡_, refl, ap}
 use mathlib.Core.List.{List, [], _∷_}
 use mathlib.Core.Bool.{Bool, true, false, cond}
 use borrow.Author.Tests.{eqb-true}
-use lib.Dec.{eqb, ltb}
-use lib.ListN.{length, getD, take}
+use lib.Dec.{eqb}
+use lib.ListN.{length, take}
 use Rattle.refusal.specs.declared.Refusal.{Refusal}
-use Rattle.refusal.specs.Refusal.{outOfPlace, badCheckValue, otherMapOrType, badContents}
-use Rattle.numeral.specs.declared.Numeral.{Numeral}
-use Rattle.numeral.specs.declared.Numeral.the-variants as numeral
-use Rattle.numeral.specs.BigEndian.{bigEndianAt}
-use Rattle.numeral.specs.Var.{varAt}
-use Rattle.numeral.specs.VarLaws.{varAt-read}
-use Rattle.position.specs.Position.{chunkOf, offsetOf, codeOf, typeOf, checkOf}
+use Rattle.refusal.specs.Refusal.{badContents}
+use Rattle.position.specs.Position.{typeOf}
 use Rattle.key.specs.declared.Kind.{Kind}
 use Rattle.page.specs.declared.Place.{Place}
 use Rattle.item.specs.declared.Form.the-variants.{Word, Bytes}
@@ -24,11 +19,14 @@ use Rattle.item.specs.declared.Skip.{Skip}
 use Rattle.item.specs.declared.Skip.the-variants as skip
 use Rattle.item.specs.declared.Counted.{Counted}
 use Rattle.item.specs.declared.Counted.the-variants as sums
-use Rattle.item.specs.Item.{onNumeral, skipped, counted}
+use Rattle.item.specs.Item.{skipped, counted}
+use Rattle.page.specs.declared.Head.{Head}
+use Rattle.page.specs.declared.Head.the-variants.{Body}
+use Rattle.page.specs.declared.Head.the-variants as head
 use Rattle.page.specs.declared.Judged.{Judged}
 use Rattle.page.specs.declared.Judged.the-variants.{Refused, Leaf, Inner}
-use Rattle.page.specs.Judged.{startOf, footerAt, begins, lengthFits, onSkip, onCounted, keyForm}
-use Rattle.page.specs.Judged.{leafAt, innerAt, bodyAt, fieldsAt, judgedAt}
+use Rattle.page.specs.Judged.{onSkip, onCounted, keyForm, leafAt, innerAt, bodyAt, headAt, onHead, judgedAt}
+use Rattle.page.specs.JudgedLaws.{head-body}
 
 pub record LeafPassed (s : List ℕ) (kind : Kind) (n keys values e : ℕ) : Type 0 where
   pub few : n < 2 ^ 31
@@ -68,11 +66,6 @@ module _ (image : List ℕ) (kind : Kind) where
   counted-passed (sums.Sum total i) go h = h total i refl
   counted-passed sums.Stuck go h = tt
 
-  numeral-passed : (x : Numeral) (r : Refusal) (go : ℕ → ℕ → Judged) → ((v i : ℕ) → x ≡ numeral.Read v i → Passed image kind (go v i))
-      → Passed image kind (onNumeral x (Refused r) go)
-  numeral-passed (numeral.Read v i) r go h = h v i refl
-  numeral-passed numeral.Bad r go h = tt
-
   -- ## A page that ends with s, a beginning of the image
   module _ (s : List ℕ) (cut : take (length s) image ≡ s) where
     cut-end : (e : ℕ) → eqb e (length s) ≡ true → take e image ≡ s
@@ -104,22 +97,11 @@ module _ (image : List ℕ) (kind : Kind) where
           go true = leaf-passed i
           go false = inner-passed i
 
-    fields-passed : (i type map : ℕ) → Passed image kind (fieldsAt s i type map kind)
-    unfolding fieldsAt
-    fields-passed i type map =
-        numeral-passed (varAt (2 ^ 31) s i) badContents _ (λ m j a.
-        cond-passed (eqb m map) _ otherMapOrType (λ t.
-        numeral-passed (varAt (2 ^ 31) s j) badContents _ (λ n k b.
-        cond-passed (ltb k (length s)) _ badContents (λ u.
-        cond-passed (eqb (getD s k 0) type) _ otherMapOrType (λ v.
-        body-passed n (varAt-read (2 ^ 31) s j b .below) type (k + 1))))))
-
   pub judged-passed : (c : Place) (p map : ℕ) → Passed image kind (judgedAt image c p map kind)
   unfolding judgedAt
-  judged-passed c p map =
-      let at = startOf c + offsetOf p in
-      let n = bigEndianAt 4 image at in
-      cond-passed (begins c (offsetOf p)) _ outOfPlace (λ t.
-      cond-passed (lengthFits (codeOf p) n (footerAt c - at)) _ outOfPlace (λ u.
-      cond-passed (eqb (bigEndianAt 2 image (at + 4)) (checkOf (chunkOf p) (offsetOf p) n)) _ badCheckValue (λ v.
-      fields-passed (take (at + n) image) (take-again (at + n) image) (at + 6) (typeOf p) map)))
+  judged-passed c p map = go (headAt image c p map) refl
+    where
+      go : (h : Head) → headAt image c p map ≡ h
+          → Passed image kind (onHead h (λ n i e. bodyAt (take e image) (typeOf p) (keyForm kind) n i))
+      go (head.Refused r) q = tt
+      go (Body n i e) q = body-passed (take e image) (take-again e image) n (head-body image c p map q .0) (typeOf p) i

@@ -16,7 +16,8 @@ use position::Position;
 use refusal::Refusal;
 ghost use mathlib.Core.Path.{_≡_};
 ghost use lib.ListN.{take};
-ghost use Rattle.page.specs.Judged.{begins, lengthFits, keyForm, whole, leafAt, innerAt, fieldsAt, judgedAt};
+ghost use Rattle.page.specs.Judged.{begins, lengthFits, keyForm, whole, leafAt, innerAt, bodyAt};
+ghost use Rattle.page.specs.Judged.{fieldsAt, headAt, judgedAt};
 ghost use Rattle.refusal.specs.Refusal.{badContents};
 
 // Where a page's chunk stands: its first block, its length in blocks, and the byte of the chunk at
@@ -25,6 +26,12 @@ pub struct Place {
     pub block: u32,
     pub len: u32,
     pub first: u32,
+}
+
+// A page's head: how many keys it has, where its items begin and where the page ends; or its refusal.
+pub enum Head {
+    Refused(Refusal),
+    Body { n: u32, at: usize, end: usize },
 }
 
 // A page by the places of its parts, or its refusal.
@@ -158,56 +165,83 @@ fn inner(s: &[u8], form: Form, n: u32, at: usize) -> Judged
     whole(s, end, page)
 }
 
-// The fields from the map id on; `s` is the image up to the page's end.
-fn fields(s: &[u8], at: usize, page_type: u32, map: u32, kind: Kind) -> Judged
-    ensures { λ r. ⌜ r ≡ fieldsAt (now (s .entry)) at «page_type» map kind ⌝ }
+// What follows the type byte.
+fn body(s: &[u8], page_type: u32, kind: Kind, n: u32, at: usize) -> Judged
+    ensures { λ r. ⌜ r ≡ bodyAt (now (s .entry)) «page_type» (keyForm kind) n at ⌝ }
 {
-    let a = numeral::read_var(s, at, COUNT_OF_KEYS);
-    let Numeral::Read { value: m, next: p } = a else {
-        return bad_contents();
-    };
-    if m != map as u64 {
-        return Judged::Refused(Refusal::new(Refusal::MAP_OR_TYPE));
-    }
-    let b = numeral::read_var(s, p, COUNT_OF_KEYS);
-    let Numeral::Read { value: n, next: q } = b else {
-        return bad_contents();
-    };
-    if s.len() <= q {
-        return bad_contents();
-    }
-    if s[q] as u32 != page_type {
-        return Judged::Refused(Refusal::new(Refusal::MAP_OR_TYPE));
-    }
     if page_type == 0 {
-        leaf(s, key_form(kind), n as u32, q + 1)
+        leaf(s, key_form(kind), n, at)
     } else {
-        inner(s, key_form(kind), n as u32, q + 1)
+        inner(s, key_form(kind), n, at)
     }
 }
 
-// The page at a position in its chunk, due for a map of a kind.
-pub fn judge(image: &[u8], chunk: Place, position: Position, map: u32, kind: Kind) -> Judged
-    ensures { λ r. ⌜ r ≡ judgedAt (now (image .entry)) chunk (position .bits) map kind ⌝ }
+fn bad_fields() -> Head
+    ensures { λ r. ⌜ r ≡ Head.Refused badContents ⌝ }
+{
+    Head::Refused(Refusal::new(Refusal::CONTENTS))
+}
+
+// The fields from the map id to the type byte; `s` is the image up to the page's end.
+fn fields(s: &[u8], at: usize, page_type: u32, map: u32) -> Head
+    ensures { λ r. ⌜ r ≡ fieldsAt (now (s .entry)) at «page_type» map ⌝ }
+{
+    let a = numeral::read_var(s, at, COUNT_OF_KEYS);
+    let Numeral::Read { value: m, next: p } = a else {
+        return bad_fields();
+    };
+    if m != map as u64 {
+        return Head::Refused(Refusal::new(Refusal::MAP_OR_TYPE));
+    }
+    let b = numeral::read_var(s, p, COUNT_OF_KEYS);
+    let Numeral::Read { value: n, next: q } = b else {
+        return bad_fields();
+    };
+    if s.len() <= q {
+        return bad_fields();
+    }
+    if s[q] as u32 != page_type {
+        return Head::Refused(Refusal::new(Refusal::MAP_OR_TYPE));
+    }
+    Head::Body {
+        n: n as u32,
+        at: q + 1,
+        end: s.len(),
+    }
+}
+
+// The head of the page at a position in its chunk, due for a map.
+pub fn head_at(image: &[u8], chunk: Place, position: Position, map: u32) -> Head
+    ensures { λ r. ⌜ r ≡ headAt (now (image .entry)) chunk (position .bits) map ⌝ }
 {
     let offset = position.offset();
     if page_begins(chunk, offset) {} else {
-        return Judged::Refused(Refusal::new(Refusal::PLACE));
+        return Head::Refused(Refusal::new(Refusal::PLACE));
     }
     let at = chunk.block as usize * 4096 + offset as usize;
     let footer = (chunk.block as usize + chunk.len as usize) * 4096 - 128;
     let n = numeral::be32(image, at);
     if length_fits(position.code(), n, footer - at) {} else {
-        return Judged::Refused(Refusal::new(Refusal::PLACE));
+        return Head::Refused(Refusal::new(Refusal::PLACE));
     }
     if numeral::be16(image, at + 4) != position::check_value(position.chunk(), offset, n) {
-        return Judged::Refused(Refusal::new(Refusal::CHECK_VALUE));
+        return Head::Refused(Refusal::new(Refusal::CHECK_VALUE));
     }
     fields(
         cut(image, at + n as usize),
         at + 6,
         position.page_type(),
         map,
-        kind,
     )
+}
+
+// The page at a position in its chunk, due for a map of a kind.
+pub fn judge(image: &[u8], chunk: Place, position: Position, map: u32, kind: Kind) -> Judged
+    ensures { λ r. ⌜ r ≡ judgedAt (now (image .entry)) chunk (position .bits) map kind ⌝ }
+{
+    let h = head_at(image, chunk, position, map);
+    match h {
+        Head::Refused(r) => Judged::Refused(r),
+        Head::Body { n, at, end } => body(cut(image, end), position.page_type(), kind, n, at),
+    }
 }

@@ -3,7 +3,7 @@ use mathlib.Core.Path.{sym, ap, _∙_}
 use Prim.Native.Nat.{_^_}
 use borrow.Author.Tests.{eq-eqb, ne-eqb, lt-ltb, le-ltb}
 use Rattle.numeral.specs.VarLaws.{varAt-read}
-use Rattle.page.specs.declared.Judged.the-variants.{Refused}
+use Rattle.page.specs.declared.Head.the-variants.{Refused}
 use Rattle.page.specs.Judged.{fieldsAt}
 use borrow.Author.Needs.{needs}
 use Rattle.page.proofs.fields.Statement.{statement}
@@ -11,7 +11,7 @@ use Rattle.page.proofs.fields.Tie as tie
 
 returns : tie.Need-returns
 unfolding fieldsAt
-returns c = rw (← c .before .before .before .read-var .ensures, c .before .enum-told .given .1) (c .bad-contents .ensures)
+returns c = rw (← c .before .before .before .read-var .ensures, c .before .enum-told .given .1) (c .bad-fields .ensures)
 
 returns-2 : tie.Need-returns-2
 unfolding fieldsAt
@@ -27,7 +27,7 @@ returns-3 c =
       eq-eqb _ _ (map .if1 .left),
       ← c .before .before .before .read-var2 .ensures,
       c .before .enum-told2 .given .1,
-    ) (c .bad-contents2 .ensures)
+    ) (c .bad-fields2 .ensures)
 
 returns-4 : tie.Need-returns-4
 unfolding fieldsAt
@@ -40,7 +40,7 @@ returns-4 c =
       ← c .before .before .before .before .before .read-var2 .ensures,
       c .before .before .before .b .given .1,
       le-ltb _ _ (c .before .if2 .taken),
-    ) (c .bad-contents3 .ensures)
+    ) (c .bad-fields3 .ensures)
 
 cast-if3 : tie.Need-cast-if3
 cast-if3 c = omega (arith, c .shared-slice-known2 .given (c .before .before .before .b .given .0 .1 .0))
@@ -60,20 +60,15 @@ returns-5 c =
       ne-eqb _ _ (c .before .if3 .taken),
     ) (ap Refused (c .new2 .ensures))
 
-cast-leaf : tie.Need-cast-leaf
-cast-leaf c =
-    let count = c .before .before .before .before .before .before in
-    omega (arith, varAt-read (2 ^ 31) _ _ (sym (count .before .before .read-var2 .ensures) ∙ count .b .given .1) .below)
-
-cast-inner : tie.Need-cast-inner
-cast-inner c =
-    let count = c .before .before .before .before .before .before in
+cast-t17 : tie.Need-cast-t17
+cast-t17 c =
+    let count = c .before .before .before .before in
     omega (arith, varAt-read (2 ^ 31) _ _ (sym (count .before .before .read-var2 .ensures) ∙ count .b .given .1) .below)
 
 returns-6 : tie.Need-returns-6
 unfolding fieldsAt
 returns-6 c =
-    let type = c .before .before .before .before .before in
+    let type = c .before .before in
     let map = type .before .before .before .before .before in
     rw (
       ← map .before .before .before .before .read-var .ensures,
@@ -82,27 +77,8 @@ returns-6 c =
       ← type .before .before .before .before .read-var2 .ensures,
       type .before .before .b .given .1,
       lt-ltb _ _ (type .if2 .left),
-      eq-eqb _ _ (c .before .before .before .if3 .left),
-      eq-eqb _ _ (c .before .before .if4 .taken),
-      ← c .before .key-form .ensures,
-    ) (c .leaf .ensures)
-
-returns-7 : tie.Need-returns-7
-unfolding fieldsAt
-returns-7 c =
-    let type = c .before .before .before .before .before in
-    let map = type .before .before .before .before .before in
-    rw (
-      ← map .before .before .before .before .read-var .ensures,
-      map .before .before .a .given .1,
-      eq-eqb _ _ (map .if1 .left),
-      ← type .before .before .before .before .read-var2 .ensures,
-      type .before .before .b .given .1,
-      lt-ltb _ _ (type .if2 .left),
-      eq-eqb _ _ (c .before .before .before .if3 .left),
-      ne-eqb _ _ (c .before .before .if4 .left),
-      ← c .before .key-form2 .ensures,
-    ) (c .inner .ensures)
+      eq-eqb _ _ (c .if3 .left),
+    )
 
 pub fields-spec : {M : Type 1} → statement M
 fields-spec =
@@ -126,13 +102,6 @@ fields-spec =
     cast-if3
     (λ c κs. search needs)
     returns-5
-    (λ c κs. search needs)
-    cast-leaf
+    cast-t17
     (λ c. search needs)
-    (λ c κs. search needs)
-    (λ c κs. search needs)
-    cast-inner
-    (λ c. search needs)
-    (λ c κs. search needs)
-    returns-6
-    returns-7)
+    returns-6)
