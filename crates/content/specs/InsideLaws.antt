@@ -98,10 +98,11 @@ module _ (s : List ℕ) where
   entry-inside kind n keys values k e = nth-inside kind (entriesIn s kind n keys values) k (entries-in kind n keys values) e
 
 -- ## In the image
-part-cut : (at len e : ℕ) (l : List ℕ) → at + len ≤ length (take e l) → take len (drop at (take e l)) ≡ take len (drop at l)
-part-cut zero len e l h = take-take len e l (omega (arith, length-take e l))
+-- bytes that end by e are the same
+pub part-cut : (at len e : ℕ) (l : List ℕ) → at + len ≤ e → take len (drop at (take e l)) ≡ take len (drop at l)
+part-cut zero len e l h = take-take len e l (omega arith)
 part-cut (suc at) len zero l h = absurd (omega arith)
-part-cut (suc at) len (suc e) [] h = absurd (omega arith)
+part-cut (suc at) len (suc e) [] h = refl
 part-cut (suc at) len (suc e) (x ∷ l) h = part-cut at len e l (omega arith)
 
 module _ (image : List ℕ) (kind : Kind) where
@@ -110,7 +111,7 @@ module _ (image : List ℕ) (kind : Kind) where
   cut-in e x h = record {
     key-inside = omega (arith, length-take e image, h .key-inside);
     value-inside = omega (arith, length-take e image, h .value-inside);
-    key-there = h .key-there ∙ ap (keyOf kind) (part-cut (x .1 .key .at) (x .1 .key .len) e image (h .key-inside));
+    key-there = h .key-there ∙ ap (keyOf kind) (part-cut (x .1 .key .at) (x .1 .key .len) e image (omega (arith, length-take e image, h .key-inside)));
   }
 
   pub page-in : (j : Judged) → InLeaf (EntryIn image kind) (pageOf image kind j)

@@ -64,7 +64,7 @@ leaf-whole s kind n keys values p = record {
   all-entries = paired-length s kind n _ _ (skipped-length s (keyForm kind) n keys (p .key-items)) (skipped-length s Bytes n values (p .value-items));
 }
 
-upTo-few : {A C : Type 0} (read : C → Step A C) (n : ℕ) (c : C) → length (upTo read n c) ≤ n
+pub upTo-few : {A C : Type 0} (read : C → Step A C) (n : ℕ) (c : C) → length (upTo read n c) ≤ n
 unfolding upTo
 upTo-few read zero c = omega arith
 upTo-few {A} {C} read (suc n) c = go (λ d. upTo-few read n d) (read c)

@@ -1,0 +1,10 @@
+pub mod Led
+pub mod Stretch
+pub mod Marks
+pub mod MarksLaws
+pub mod JumpLaws
+pub mod LedLaws
+pub mod TextsLaws
+pub mod CutItemLaws
+pub mod CutLaws
+pub mod CutKeyLaws
