@@ -1,15 +1,13 @@
 //! The calls, asked of the reader that counts.
 
-use std::rc::Rc;
-
-use super::count::{Kept, Reader, Work};
+use super::count::{Reader, Work};
 use crate::model::bytes::{digits, digits_value};
 use crate::model::examine::{leaf_keys_good, separators_good, Between, Report};
 use crate::model::index::{child_at, total, Entry};
 use crate::model::key::{well_formed, Key, Kind};
 use crate::model::locate::QUESTIONS;
 use crate::model::map::Map;
-use crate::model::page::Body;
+use crate::model::page::{Body, Page};
 use crate::model::position::EMPTY;
 use crate::model::refusal::{Outcome, ARGUMENT, INDEX, NOT_A_NUMBER, NO_NAME, UNSOUND};
 use crate::subject::{Answer, MapArgs, Question};
@@ -40,7 +38,7 @@ impl<'a> Reader<'a> {
             }
             Question::Count { map } => {
                 let map = self.map(map)?;
-                self.page(&map, map.root, 1).map(|root| Answer::Count(total(&root.page)))
+                self.page(&map, map.root, 1).map(|root| Answer::Count(total(&root)))
             }
             Question::Walk { map, state } => {
                 let map = self.map(map)?;
@@ -76,13 +74,13 @@ impl<'a> Reader<'a> {
     fn index(&mut self, map: &Map, at: u64) -> Outcome<Entry> {
         let (mut number, mut depth, mut left) = (map.root, 1, at);
         loop {
-            let kept = self.page(map, number, depth)?;
-            if left >= total(&kept.page) {
+            let page = self.page(map, number, depth)?;
+            if left >= total(&page) {
                 return Err(INDEX);
             }
-            match &kept.page.body {
+            match &page.body {
                 Body::Inner(children) => (number, left) = child_at(children, left),
-                Body::Leaf(_) => return Ok(kept.entry(left)),
+                Body::Leaf(_) => return Ok(entry(&page, left)),
             }
             depth += 1;
         }
@@ -91,21 +89,21 @@ impl<'a> Reader<'a> {
     /// A step of the walk from the places of a state: down by them, up to the lowest page with a
     /// next child or entry, and down its first children.
     fn step(&mut self, map: &Map, places: &[u64]) -> Outcome<Option<Entry>> {
-        let mut pages: Vec<Rc<Kept>> = Vec::new();
+        let mut pages: Vec<Page> = Vec::new();
         let mut number = map.root;
         for &place in places {
-            let kept = self.page(map, number, pages.len() as u64 + 1)?;
-            number = kept.child(place).unwrap_or(EMPTY);
-            pages.push(kept);
+            let page = self.page(map, number, pages.len() as u64 + 1)?;
+            number = child(&page, place).unwrap_or(EMPTY);
+            pages.push(page);
         }
         let Some(last) = places.len().checked_sub(1) else {
             return self.leftmost(map, map.root, 1).map(Some);
         };
-        if places[last] + 1 < total(&pages[last].page) {
-            return Ok(Some(pages[last].entry(places[last] + 1)));
+        if places[last] + 1 < total(&pages[last]) {
+            return Ok(Some(entry(&pages[last], places[last] + 1)));
         }
         for i in (0..last).rev() {
-            if let Some(child) = pages[i].child(places[i] + 1) {
+            if let Some(child) = child(&pages[i], places[i] + 1) {
                 return self.leftmost(map, child, i as u64 + 2).map(Some);
             }
         }
@@ -113,11 +111,11 @@ impl<'a> Reader<'a> {
     }
 
     fn leftmost(&mut self, map: &Map, position: u64, depth: u64) -> Outcome<Entry> {
-        let kept = self.page(map, position, depth)?;
-        match kept.child(0) {
+        let page = self.page(map, position, depth)?;
+        match child(&page, 0) {
             Some(child) => self.leftmost(map, child, depth + 1),
-            None if kept.page.keys.is_empty() => Err(UNSOUND),
-            None => Ok(kept.entry(0)),
+            None if page.keys.is_empty() => Err(UNSOUND),
+            None => Ok(entry(&page, 0)),
         }
     }
 
@@ -128,14 +126,13 @@ impl<'a> Reader<'a> {
         depth: u64,
         between: Between<'a>,
     ) -> Outcome<Report> {
-        let kept = self.page(map, number, depth)?;
-        let keys = &kept.page.keys;
+        let Page { keys, body } = self.page(map, number, depth)?;
         let mut report = Report { entries: keys.len() as u64, pages: 1, depth };
-        let Body::Inner(children) = &kept.page.body else {
-            let good = (depth == 1 || !keys.is_empty()) && leaf_keys_good(keys, between);
+        let Body::Inner(children) = body else {
+            let good = (depth == 1 || !keys.is_empty()) && leaf_keys_good(&keys, between);
             return good.then_some(report).ok_or(UNSOUND);
         };
-        separators_good(keys, between).then_some(()).ok_or(UNSOUND)?;
+        separators_good(&keys, between).then_some(()).ok_or(UNSOUND)?;
         report.entries = 0;
         for (i, child) in children.iter().enumerate() {
             let left = i.checked_sub(1).map(|i| keys[i].key).or(between.left);
@@ -150,20 +147,16 @@ impl<'a> Reader<'a> {
     }
 }
 
-impl Kept<'_> {
-    /// The entry of a leaf by its number.
-    fn entry(&self, number: u64) -> Entry {
-        let Body::Leaf(values) = &self.page.body else {
-            unreachable!("an entry is taken from a leaf")
-        };
-        Entry::new(&self.page.keys[number as usize], values[number as usize])
-    }
+/// The entry of a leaf by its number.
+fn entry(page: &Page, number: u64) -> Entry {
+    let Body::Leaf(values) = &page.body else { unreachable!("an entry is taken from a leaf") };
+    Entry::new(&page.keys[number as usize], values[number as usize])
+}
 
-    /// A child's position, if this is an inner page with a child of that number.
-    fn child(&self, number: u64) -> Option<u64> {
-        match &self.page.body {
-            Body::Inner(children) => children.get(number as usize).map(|child| child.position),
-            Body::Leaf(_) => None,
-        }
+/// A child's position, if this is an inner page with a child of that number.
+fn child(page: &Page, number: u64) -> Option<u64> {
+    match &page.body {
+        Body::Inner(children) => children.get(number as usize).map(|child| child.position),
+        Body::Leaf(_) => None,
     }
 }

@@ -1,10 +1,13 @@
 //! A reader that counts what a call needs where each chunk is located once: the pages read, the
-//! questions about chunks, and the bytes of those pages. Its pages are judged by the model; it keeps
-//! the metadata's, so that it is fast on the worst of images, and counts each reading all the same.
+//! questions about chunks, and the bytes of those pages. Its pages are judged by the model, where the
+//! metadata has many inner ones the first of them. It keeps what lookups need of the metadata's, so
+//! that it is fast on the worst of images, and counts each reading all the same.
 
 use std::collections::{HashMap, HashSet};
 use std::rc::Rc;
 
+use super::runs;
+use super::ways::{first_equal, first_greater, Ways};
 use crate::model::bytes::digits;
 use crate::model::chunk::{stands_at, Chunk};
 use crate::model::image::{Image, Span};
@@ -13,9 +16,12 @@ use crate::model::line::field;
 use crate::model::locate::QUESTIONS;
 use crate::model::map::Map;
 use crate::model::opening::newest;
-use crate::model::page::{place, read_in, Body, Page, PageKey, DEEPEST};
+use crate::model::page::{place, read_in, Page, DEEPEST};
 use crate::model::position::{Position, EMPTY};
 use crate::model::refusal::{Outcome, NINTH_QUESTION, NO_CHUNK, OUT_OF_PLACE, TOO_DEEP};
+
+/// So many of the metadata's pages are judged both by the model and by runs.
+const BOTH: usize = 50;
 
 /// What a call needs.
 #[derive(Clone, Copy, Debug, Default, PartialEq, Eq)]
@@ -25,21 +31,14 @@ pub struct Work {
     pub bytes: u64,
 }
 
-/// A page that is kept, and the numbers of its keys that are greater than all before them: the first
-/// key that is greater than some key is one of these, and so is the first that is equal to it, if no
-/// greater one comes before.
-pub struct Kept<'a> {
-    pub page: Page<'a>,
-    records: Vec<usize>,
-}
-
 pub struct Reader<'a> {
     pub image: Image<'a>,
     pub newest: Chunk,
     pub work: Work,
     /// The chunks that were located, each with the questions that it takes.
     located: HashMap<u64, (Chunk, u32)>,
-    kept: HashMap<u64, Rc<Kept<'a>>>,
+    /// What lookups need of the metadata's pages.
+    kept: HashMap<u64, Rc<Ways<'a>>>,
 }
 
 impl<'a> Reader<'a> {
@@ -54,14 +53,8 @@ impl<'a> Reader<'a> {
         Map { id: 0, kind: Kind::Text, root: self.newest.root }
     }
 
-    /// A page at a depth, with so many questions left; and the questions that it takes.
-    pub fn read(
-        &mut self,
-        map: &Map,
-        number: u64,
-        depth: u64,
-        left: u32,
-    ) -> Outcome<(Rc<Kept<'a>>, u32)> {
+    /// Where a page at a depth is, with so many questions left; and the questions that it takes.
+    fn find(&mut self, number: u64, depth: u64, left: u32) -> Outcome<(Chunk, Position, u32)> {
         if depth > DEEPEST {
             return Err(TOO_DEEP);
         }
@@ -72,15 +65,45 @@ impl<'a> Reader<'a> {
         let (chunk, taken) = self.locate(position.chunk, left)?;
         self.work.pages += 1;
         self.work.bytes += place(&self.image, &chunk, &position)?.length;
-        if let Some(kept) = self.kept.get(&number).filter(|_| map.id == 0) {
-            return Ok((kept.clone(), taken));
+        Ok((chunk, position, taken))
+    }
+
+    /// A page of a map, which has the whole of a call's questions.
+    pub fn page(&mut self, map: &Map, number: u64, depth: u64) -> Outcome<Page<'a>> {
+        let (chunk, position, _) = self.find(number, depth, QUESTIONS)?;
+        read_in(&self.image, &chunk, map, &position)
+    }
+
+    /// What a lookup needs of a page, and the questions that it takes.
+    fn ways(
+        &mut self,
+        map: &Map,
+        number: u64,
+        depth: u64,
+        left: u32,
+    ) -> Outcome<(Rc<Ways<'a>>, u32)> {
+        let (chunk, position, taken) = self.find(number, depth, left)?;
+        if let Some(ways) = self.kept.get(&number).filter(|_| map.id == 0) {
+            return Ok((ways.clone(), taken));
         }
-        let page = read_in(&self.image, &chunk, map, &position)?;
-        let kept = Rc::new(Kept { records: records(&page.keys), page });
+        let ways = Rc::new(self.judged(map, &chunk, &position)?);
         if map.id == 0 {
-            self.kept.insert(number, kept.clone());
+            self.kept.insert(number, ways.clone());
         }
-        Ok((kept, taken))
+        Ok((ways, taken))
+    }
+
+    /// A page judged by the model; an inner one of the metadata by runs too, later by runs alone.
+    fn judged(&mut self, map: &Map, chunk: &Chunk, position: &Position) -> Outcome<Ways<'a>> {
+        let by_runs = map.id == 0 && position.kind == 1;
+        if by_runs && self.kept.len() >= BOTH {
+            return runs::inner(&self.image, chunk, position);
+        }
+        let ways = read_in(&self.image, chunk, map, position).map(|page| Ways::of(&page));
+        if by_runs {
+            assert_eq!(runs::inner(&self.image, chunk, position), ways, "{position:?} by runs");
+        }
+        ways
     }
 
     /// A refusal ends the call, so only what is found is remembered.
@@ -114,48 +137,15 @@ impl<'a> Reader<'a> {
             return Ok((None, 0));
         }
         loop {
-            let (kept, taken) = self.read(map, number, depth, left)?;
+            let (ways, taken) = self.ways(map, number, depth, left)?;
             most = most.max(taken);
-            match &kept.page.body {
-                Body::Inner(children) => number = children[kept.not_greater(key)].position,
-                Body::Leaf(values) => {
-                    return Ok((kept.first_equal(key).map(|i| values[i]), most));
-                }
+            match &*ways {
+                Ways::Inner(keys, last) => number = first_greater(keys, key).unwrap_or(*last),
+                Ways::Leaf(keys) => return Ok((first_equal(keys, key), most)),
             }
             depth += 1;
         }
     }
-
-    /// The whole of a call's questions are left for a map's own pages.
-    pub fn page(&mut self, map: &Map, number: u64, depth: u64) -> Outcome<Rc<Kept<'a>>> {
-        self.read(map, number, depth, QUESTIONS).map(|(kept, _)| kept)
-    }
-}
-
-impl Kept<'_> {
-    /// How many leading keys, up to the first greater one, are not greater.
-    fn not_greater(&self, key: Key) -> usize {
-        let keys = &self.page.keys;
-        let record = self.records.partition_point(|&i| keys[i].key <= key);
-        self.records.get(record).copied().unwrap_or(keys.len())
-    }
-
-    /// The first equal key that comes before any greater one.
-    fn first_equal(&self, key: Key) -> Option<usize> {
-        let keys = &self.page.keys;
-        let record = self.records.partition_point(|&i| keys[i].key < key);
-        self.records.get(record).copied().filter(|&i| keys[i].key == key)
-    }
-}
-
-fn records(keys: &[PageKey]) -> Vec<usize> {
-    let mut records: Vec<usize> = Vec::new();
-    for (i, key) in keys.iter().enumerate() {
-        if records.last().is_none_or(|&last| keys[last].key < key.key) {
-            records.push(i);
-        }
-    }
-    records
 }
 
 /// The field `block` of a line; the model compares each name with all before it.

@@ -17,7 +17,7 @@ pub fn wide_leaf(size: usize) -> Worst {
     let mut draft = Draft::new(false);
     let numbers: Vec<usize> = (0..chunks).map(|_| draft.add_chunk()).collect();
     let newest = draft.add_chunk();
-    let forces = scattered(&mut draft, &numbers, newest);
+    let forces = scattered(&mut draft, &numbers, newest, |number| number as i64);
     let mut entries: Entries = numbers.iter().map(|&chunk| draft.entry(chunk)).collect();
     entries.extend(names(forces));
     let empty = (size / 2 - 4 * BLOCK as usize) / EMPTY_ENTRY;
@@ -35,13 +35,14 @@ fn wide(empty: usize, entries: &Entries) -> Body {
     Body { map: METADATA_PLAN.id, type_bit: 0, n: (empty + entries.len()) as u64, bytes }
 }
 
-/// A map with a leaf of one entry in each of these chunks, its root in the newest.
-pub fn scattered(draft: &mut Draft, chunks: &[usize], newest: usize) -> u64 {
+/// A map with a leaf of one entry in each of these chunks, its root in the newest. The keys are by
+/// the leaf's number.
+pub fn scattered(draft: &mut Draft, chunks: &[usize], newest: usize, key: fn(usize) -> i64) -> u64 {
     let mut children = Vec::new();
     for (number, &chunk) in chunks.iter().enumerate() {
-        let leaf = Body::leaf(FORCES_PLAN, &[(number_key(number as i64), Vec::new())]);
+        let leaf = Body::leaf(FORCES_PLAN, &[(number_key(key(number)), Vec::new())]);
         children.push((draft.put(chunk, &leaf), 1));
     }
-    let separators: Vec<Vec<u8>> = (1..chunks.len() as i64).map(number_key).collect();
+    let separators: Vec<Vec<u8>> = (1..chunks.len()).map(|i| number_key(key(i))).collect();
     draft.put(newest, &Body::inner(FORCES_PLAN, &children, &separators))
 }

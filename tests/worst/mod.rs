@@ -11,7 +11,9 @@
 //! | `deep`     | trees of depth 16; inner pages with one child many times |
 //! | `many`     | as many pages as fit |
 //! | `overlap`  | pages that share their bytes |
+//! | `each`     | the same, with pages of its own on the way to each chunk |
 //! | `count`, `ask` | a reader that counts what a call needs |
+//! | `ways`, `runs` | what a lookup needs of a page, and a fast way to judge wide ones |
 //! | `asked`    | a call of the exports in a process of its own |
 //! | `table`    | the table of `tests/run --worst` |
 //! | `short`    | small ones in the short run |
@@ -23,14 +25,17 @@ mod chain;
 pub mod count;
 mod deep;
 mod draft;
+mod each;
 mod many;
 mod metadata;
 mod nested;
 mod overlap;
+mod runs;
 #[cfg(archive)]
 pub mod short;
 #[cfg(archive)]
 pub mod table;
+mod ways;
 mod wide;
 
 use crate::build::tree::MapPlan;
@@ -86,12 +91,17 @@ const fn growing(name: &'static str, maker: Maker) -> Named {
     Named { short: 400, ..slow(name, maker) }
 }
 
+/// One of these that costs more, at a size that the model is fast enough for.
+const fn growing_most(name: &'static str, maker: Maker) -> Named {
+    Named { short: 300, plain: true, ..growing(name, maker) }
+}
+
 /// One of very many chunks: 10,000 in 40 MB.
 const fn longest(name: &'static str, maker: Maker) -> Named {
     Named { sizes: &[1, 4, 16, 40], short: 1024, ..named(name, maker) }
 }
 
-pub const ALL: [Named; 18] = [
+pub const ALL: [Named; 19] = [
     named("nested", nested::nested),
     slow("nested-lines", nested::long_lines),
     slow("nested-values", nested::long_values),
@@ -110,6 +120,7 @@ pub const ALL: [Named; 18] = [
     named("many-paths", many::paths),
     slowest("overlap", overlap::paths),
     growing("overlap-chunks", overlap::chunks),
+    growing_most("overlap-each", each::each),
 ];
 
 impl Worst {

@@ -21,9 +21,9 @@ use crate::subject::MapArgs;
 const PATH: usize = DEEPEST as usize - 1;
 const NOTES_PLAN: MapPlan = MapPlan { id: 1, kind: 1 };
 /// The shared bytes are in the only chunk, or in one that has all others in it.
-const NEWEST: usize = 0;
+pub const NEWEST: usize = 0;
 /// A header with a count of keys of three bytes, and the bytes from a page's start to the next's.
-const HEADER: u64 = 11;
+pub const HEADER: u64 = 11;
 const STEP: u64 = 24;
 /// Where a path's first page begins, from the first page of the path before.
 const GROUP: u64 = 1024;
@@ -33,7 +33,7 @@ const LEAF: u64 = 8192;
 const BIG: u64 = 1 << 24;
 const BIG_MORE: u64 = 3;
 /// The separator that is not empty: it is above every key that is asked for.
-const ABOVE: &[u8] = b"\x01~";
+pub const ABOVE: &[u8] = b"\x01~";
 
 /// Lookup, index and walk all go down two paths, to a leaf that shares the same bytes.
 pub fn paths(size: usize) -> Worst {
@@ -75,7 +75,7 @@ pub fn chunks(size: usize) -> Worst {
     draft.put_bytes(NEWEST, &vec![0; room as usize]);
     let blocks = shared.blocks();
     let numbers: Vec<usize> = blocks.map(|block| draft.add_within(NEWEST, block)).collect();
-    let forces = scattered(&mut draft, &numbers, NEWEST);
+    let forces = scattered(&mut draft, &numbers, NEWEST, |number| number as i64);
     let leaf = draft.metadata(NEWEST, &numbers, forces);
     shared = Shared::new(room);
     shared.path(METADATA_PLAN.id, 0, leaf);
@@ -216,7 +216,7 @@ impl Shared {
     }
 }
 
-fn header(map: u64, start: u64, length: u64, n: u64, type_bit: u8) -> Vec<u8> {
+pub fn header(map: u64, start: u64, length: u64, n: u64, type_bit: u8) -> Vec<u8> {
     let check = check_value(FIRST_ID + NEWEST as u64, start, length) as u16;
     let head = [variable(map), variable(n), vec![type_bit]].concat();
     [&(length as u32).to_be_bytes()[..], &check.to_be_bytes(), &head].concat()
