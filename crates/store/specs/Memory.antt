@@ -1,11 +1,14 @@
 -- What is right of the memory of a call, and what the code's answers say of locating.
 --
---   RightWords image newest ws    each chunk that the words hold is known: it stands there, and takes as many questions
+--   half ws                       where the second half of the words begins: the first is for chunks, the second for stretches of items
+--   RightWords image newest ws    each chunk that the words hold is known: it stands there, and takes as many questions; and each
+--                                 stretch that they hold is right
 --   TellsOf, Sought               what an answer of `locate`, of `descend` says
-use Prim.Native.Nat.{ℕ, _≤_}
+use Prim.Native.Nat.{ℕ, _/_, _≤_}
 use mathlib.Core.Path.{_≡_}
 use mathlib.Core.List.{List}
 use mathlib.Core.Option.{none, some}
+use lib.ListN.{length, take, drop}
 use Rattle.refusal.specs.Refusal.{ok, refuse}
 use Rattle.key.specs.declared.Kind.{Kind}
 use Rattle.key.specs.Key.{Key}
@@ -14,15 +17,20 @@ use Rattle.content.specs.Content.{Entry, pageIn}
 use Rattle.locating.specs.Locating.{located}
 use Rattle.locating.specs.Known.{Gated, Known, askedIn}
 use Rattle.memory.specs.Words.{Holds}
+use Rattle.stretch.specs.Stretch.{Stretches}
 use Rattle.metadata.specs.declared.Told.{Told}
 use Rattle.metadata.specs.declared.Told.the-variants as told
 use Rattle.metadata.specs.declared.Looked.{Looked}
 use Rattle.metadata.specs.declared.Looked.the-variants as looked
 use Rattle.store.specs.Store.{metadata}
 
+abbrev pub half : List ℕ → ℕ
+half ws = length ws / 2
+
 module _ (image : List ℕ) (newest : Chunk) where
   pub record RightWords (ws : List ℕ) : Type 0 where
-    pub known : Holds (Known (metadata image newest)) ws
+    pub known : Holds (Known (metadata image newest)) (take (half ws) ws)
+    pub stretches : Stretches image (drop (half ws) ws)
 
   unfoldable pub TellsOf : ℕ → ℕ → Told → Type 0
   TellsOf q c (told.At l need) = (need ≤ q) × Known (metadata image newest) c l need

@@ -1,25 +1,52 @@
--- Laws of the memory: what is right of an empty one, of what is recalled, and of the words with a chunk more.
-use Prim.Native.Nat.{ℕ, _^_, _<_}
-use mathlib.Core.Path.{_≡_}
-use mathlib.Core.List.{List}
-use lib.ListN.{replicate}
+-- Laws of the memory: an empty one is right, what is recalled is known, and either half may be replaced by one that is as long and right.
+use Prim.Native.Nat.{ℕ, _+_, _-_, _/_}
+use mathlib.Core.Path.{_≡_, refl, sym, _∙_, ap}
+use mathlib.Core.List.{List, _++_}
+use native.Mathlib.Omega.{arith}
+use lib.ListN.{length, take, drop, replicate, length-append, length-take, length-drop, length-replicate, replicate-append-replicate}
+use lib.Seq.{take-at, drop-at}
 use Rattle.locating.specs.Known.{Known}
 use Rattle.opening.specs.declared.chunk.Chunk.{Chunk}
 use Rattle.page.specs.declared.Place.{Place}
 use Rattle.memory.specs.declared.Recalled.the-variants.{At}
-use Rattle.memory.specs.Words.{recalledIn, rememberedIn}
-use Rattle.memory.specs.WordsLaws.{empty-holds, recalled-holds, remembered-holds}
+use Rattle.memory.specs.Words.{recalledIn, Holds}
+use Rattle.memory.specs.WordsLaws.{empty-holds, recalled-holds}
+use Rattle.stretch.specs.Stretch.{Stretches}
+use Rattle.stretch.specs.MarksLaws.{empty-stretches}
 use Rattle.store.specs.Store.{metadata}
-use Rattle.store.specs.Memory.{RightWords}
+use Rattle.store.specs.Memory.{half, RightWords}
 
-pub empty-right : (image : List ℕ) (newest : Chunk) (n : ℕ) → RightWords image newest (replicate n 0)
-empty-right image newest n = record { known = empty-holds (Known (metadata image newest)) n }
+module _ (image : List ℕ) (newest : Chunk) where
+  -- two parts of which the first is the half of both
+  joined-right : (ws a b : List ℕ) → ws ≡ a ++ b → length a ≡ half ws → Holds (Known (metadata image newest)) a → Stretches image b
+      → RightWords image newest ws
+  joined-right ws a b e n known stretches =
+      record {
+        known = rw (ap (take (half ws)) e ∙ take-at a b (half ws) n) known;
+        stretches = rw (ap (drop (half ws)) e ∙ drop-at a b (half ws) n) stretches;
+      }
 
-module _ (image : List ℕ) (newest : Chunk) {ws : List ℕ} (right : RightWords image newest ws) (c : ℕ) where
-  pub recalled-known : {l : Place} {need : ℕ} → recalledIn ws c ≡ At l need → Known (metadata image newest) c l need
-  recalled-known e = recalled-holds (Known (metadata image newest)) ws (right .known) c e
+  pub empty-right : (n : ℕ) → RightWords image newest (replicate n 0)
+  empty-right n =
+      let m : n / 2 + (n - n / 2) ≡ n = omega arith in
+      joined-right (replicate n 0) (replicate (n / 2) 0) (replicate (n - n / 2) 0)
+      (sym (replicate-append-replicate (n / 2) (n - n / 2) 0 ∙ ap (λ (k : ℕ). replicate k 0) m))
+      (omega (arith, length-replicate {A = ℕ} n 0, length-replicate {A = ℕ} (n / 2) 0))
+      (empty-holds (Known (metadata image newest)) (n / 2)) (empty-stretches image (n - n / 2))
 
-  pub remembered-right : (l : Place) (need : ℕ) → l .block < 2 ^ 28 → l .first < 2 ^ 32 → need < 16 →
-      Known (metadata image newest) c l need → RightWords image newest (rememberedIn ws c l need)
-  remembered-right l need b f few known =
-      record { known = remembered-holds (Known (metadata image newest)) c l need b f few ws (right .known) known }
+  module _ {ws : List ℕ} (right : RightWords image newest ws) where
+    pub recalled-known : (c : ℕ) {l : Place} {need : ℕ} → recalledIn (take (half ws) ws) c ≡ At l need
+        → Known (metadata image newest) c l need
+    recalled-known c e = recalled-holds (Known (metadata image newest)) (take (half ws) ws) (right .known) c e
+
+    -- h is how the code has the half, and e what comes back where a part is lent
+    module _ (h : ℕ) (is : h ≡ half ws) (e : List ℕ) where
+      pub right-front : length e ≡ length (take h ws) → Holds (Known (metadata image newest)) e → RightWords image newest (e ++ drop h ws)
+      right-front n known =
+          joined-right (e ++ drop h ws) e (drop h ws) refl
+          (omega (arith, length-append e (drop h ws), length-take h ws, length-drop h ws)) known (rw is (right .stretches))
+
+      pub right-back : length e ≡ length (drop h ws) → Stretches image e → RightWords image newest (take h ws ++ e)
+      right-back n stretches =
+          joined-right (take h ws ++ e) (take h ws) e refl
+          (omega (arith, length-append (take h ws) e, length-take h ws, length-drop h ws)) (rw is (right .known)) stretches

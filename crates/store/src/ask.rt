@@ -46,10 +46,10 @@ pub fn lookup(image: &[u8], newest: Chunk, map: u32, kind: Kind, key: &[u8]) -> 
     ensures { λ r. ⌜ r ≡ valueOf (lookupIn (now (image .entry)) newest map kind (keyOf kind (now (key .entry)))) ⌝ }
 {
     if image.len() < SMALL {
-        let mut memory = [0u64; 512];
+        let mut memory = [0u64; 1024];
         return lookup_with(image, newest, &mut memory, map, kind, key);
     }
-    let mut memory = [0u64; 8192];
+    let mut memory = [0u64; 16384];
     lookup_with(image, newest, &mut memory, map, kind, key)
 }
 
@@ -76,10 +76,10 @@ pub fn index(image: &[u8], newest: Chunk, map: u32, kind: Kind, index: u64) -> F
     ensures { λ r. ⌜ r ≡ fetchedOf (indexIn (now (image .entry)) newest map kind index) ⌝ }
 {
     if image.len() < SMALL {
-        let mut memory = [0u64; 512];
+        let mut memory = [0u64; 1024];
         return index_with(image, newest, &mut memory, map, kind, index);
     }
-    let mut memory = [0u64; 8192];
+    let mut memory = [0u64; 16384];
     index_with(image, newest, &mut memory, map, kind, index)
 }
 
@@ -134,9 +134,9 @@ pub fn count(image: &[u8], newest: Chunk, map: u32, kind: Kind) -> Counted
     ensures { λ r. ⌜ r ≡ countedOf (countIn (now (image .entry)) newest map kind) ⌝ }
 {
     if image.len() < SMALL {
-        let mut memory = [0u64; 512];
+        let mut memory = [0u64; 1024];
         return count_with(image, newest, &mut memory, map, kind);
     }
-    let mut memory = [0u64; 8192];
+    let mut memory = [0u64; 16384];
     count_with(image, newest, &mut memory, map, kind)
 }

@@ -200,9 +200,9 @@ pub fn examine(image: &[u8], newest: Chunk, map: u32, kind: Kind) -> Examined
     ensures { λ r. ⌜ r ≡ examinedOf (examineIn (now (image .entry)) newest map kind) ⌝ }
 {
     if image.len() < SMALL {
-        let mut memory = [0u64; 512];
+        let mut memory = [0u64; 1024];
         return examine_with(image, newest, &mut memory, map, kind);
     }
-    let mut memory = [0u64; 8192];
+    let mut memory = [0u64; 16384];
     examine_with(image, newest, &mut memory, map, kind)
 }

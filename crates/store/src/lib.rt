@@ -48,9 +48,10 @@ pub enum Counted {
     Refused(Refusal),
 }
 
-// An image below so many bytes has no more than 256 blocks, and so no more chunks than a memory of 512
-// words has room for. One of 8,192 has room for the chunks of any image of 16 MB. A public function
-// clears one of the two, since clearing takes time, and lends it to what does the work.
+// Half of a memory's words are for chunks. An image below so many bytes has no more than 256 blocks, and
+// so no more chunks than a memory of 1,024 words has room for. One of 16,384 has room for the chunks of
+// any image of 16 MB. A public function clears one of the two, since clearing takes time, and lends it
+// to what does the work.
 pub const SMALL: usize = 1048576;
 
 // How many questions may be open at once.
@@ -64,10 +65,10 @@ pub fn chunk_place(image: &[u8], newest: Chunk, chunk: u32) -> Located
     ensures { λ r. ⌜ placeSaid r ≡ chunkAt (now (image .entry)) newest 8 chunk ⌝ }
 {
     if image.len() < SMALL {
-        let mut memory = [0u64; 512];
+        let mut memory = [0u64; 1024];
         return located_by(locate(image, newest, &mut memory, chunk, QUESTIONS));
     }
-    let mut memory = [0u64; 8192];
+    let mut memory = [0u64; 16384];
     located_by(locate(image, newest, &mut memory, chunk, QUESTIONS))
 }
 
@@ -98,10 +99,10 @@ pub fn map_id(image: &[u8], newest: Chunk, name: &[u8]) -> Id
     ensures { λ r. ⌜ idSaid r ≡ namedMap (now (image .entry)) newest (now (name .entry)) ⌝ }
 {
     if image.len() < SMALL {
-        let mut memory = [0u64; 512];
+        let mut memory = [0u64; 1024];
         return named_with(image, newest, &mut memory, name);
     }
-    let mut memory = [0u64; 8192];
+    let mut memory = [0u64; 16384];
     named_with(image, newest, &mut memory, name)
 }
 
@@ -110,9 +111,9 @@ pub fn map_root(image: &[u8], newest: Chunk, map: u32) -> Root
     ensures { λ r. ⌜ rootSaid r ≡ mapRoot (now (image .entry)) newest map ⌝ }
 {
     if image.len() < SMALL {
-        let mut memory = [0u64; 512];
+        let mut memory = [0u64; 1024];
         return root_at(image, newest, &mut memory, map);
     }
-    let mut memory = [0u64; 8192];
+    let mut memory = [0u64; 16384];
     root_at(image, newest, &mut memory, map)
 }

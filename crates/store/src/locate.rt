@@ -1,5 +1,5 @@
-// Locating a chunk and a descent, which ask each other. What was located is remembered in an array
-// that the caller lends; `q` is how many questions may still be opened.
+// Locating a chunk and a descent, which ask each other. What was located is remembered in the first half
+// of an array that the caller lends; `q` is how many questions may still be opened.
 use super::keys::number_key;
 use super::settle::settle;
 use key::Kind;
@@ -29,7 +29,8 @@ pub(crate) fn locate(image: &[u8], newest: Chunk, memory: &mut [u64], c: u32, q:
             need: 0,
         };
     }
-    let r = memory::recall(memory, c);
+    let h = memory.len() / 2;
+    let r = memory::recall(&memory[..h], c);
     if let Recalled::At { place, need } = r {
         if q < need {
             return Told::Refused(Refusal::new(Refusal::NINTH_QUESTION));
@@ -51,7 +52,7 @@ pub(crate) fn locate(image: &[u8], newest: Chunk, memory: &mut [u64], c: u32, q:
         &key[..n],
         q - 1,
     );
-    settle(image, memory, c, f)
+    settle(image, &mut memory[..h], c, f)
 }
 
 // A lookup of `key` in the map whose root is given: one page a turn, at most 16.

@@ -96,9 +96,9 @@ pub fn advance(image: &[u8], newest: Chunk, map: u32, kind: Kind, w: Walk) -> St
     ensures { λ r. ⌜ r ≡ stepIn (now (image .entry)) newest map kind w ⌝ }
 {
     if image.len() < SMALL {
-        let mut memory = [0u64; 512];
+        let mut memory = [0u64; 1024];
         return advance_with(image, newest, &mut memory, map, kind, w);
     }
-    let mut memory = [0u64; 8192];
+    let mut memory = [0u64; 16384];
     advance_with(image, newest, &mut memory, map, kind, w)
 }

@@ -9,7 +9,7 @@ use Rattle.store.proofs.chunk_place.Statement.{statement}
 use Rattle.store.proofs.chunk_place.Tie as tie
 
 locate-requires : tie.Need-locate-requires
-locate-requires c κs = (omega arith, empty-right _ _ 512)
+locate-requires c κs = (omega arith, empty-right _ _ 1024)
 
 returns : tie.Need-returns
 returns c =
@@ -18,7 +18,7 @@ returns c =
     ap placeSaid (c .located-by .ensures) ∙ place-told (now (a .image)) (a .newest) (a .chunk) (l .result) (l .ensures .1)
 
 locate-requires-2 : tie.Need-locate-requires-2
-locate-requires-2 c κs = (omega arith, empty-right _ _ 8192)
+locate-requires-2 c κs = (omega arith, empty-right _ _ 16384)
 
 returns-2 : tie.Need-returns-2
 returns-2 c =

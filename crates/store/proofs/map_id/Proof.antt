@@ -4,13 +4,13 @@ use Rattle.store.proofs.map_id.Statement.{statement}
 use Rattle.store.proofs.map_id.Tie as tie
 
 named-with-requires : tie.Need-named-with-requires
-named-with-requires c κs = empty-right _ _ 512
+named-with-requires c κs = empty-right _ _ 1024
 
 returns : tie.Need-returns
 returns c = c .before .named-with .ensures
 
 named-with-requires-2 : tie.Need-named-with-requires-2
-named-with-requires-2 c κs = empty-right _ _ 8192
+named-with-requires-2 c κs = empty-right _ _ 16384
 
 returns-2 : tie.Need-returns-2
 returns-2 c = c .before .named-with2 .ensures

@@ -4,13 +4,13 @@ use Rattle.store.proofs.ask.count.Statement.{statement}
 use Rattle.store.proofs.ask.count.Tie as tie
 
 count-with-requires : tie.Need-count-with-requires
-count-with-requires c κs = empty-right _ _ 512
+count-with-requires c κs = empty-right _ _ 1024
 
 returns : tie.Need-returns
 returns c = c .before .count-with .ensures
 
 count-with-requires-2 : tie.Need-count-with-requires-2
-count-with-requires-2 c κs = empty-right _ _ 8192
+count-with-requires-2 c κs = empty-right _ _ 16384
 
 returns-2 : tie.Need-returns-2
 returns-2 c = c .before .count-with2 .ensures

@@ -4,13 +4,13 @@ use Rattle.store.proofs.ask.lookup.Statement.{statement}
 use Rattle.store.proofs.ask.lookup.Tie as tie
 
 lookup-with-requires : tie.Need-lookup-with-requires
-lookup-with-requires c κs = empty-right _ _ 512
+lookup-with-requires c κs = empty-right _ _ 1024
 
 returns : tie.Need-returns
 returns c = c .before .lookup-with .ensures
 
 lookup-with-requires-2 : tie.Need-lookup-with-requires-2
-lookup-with-requires-2 c κs = empty-right _ _ 8192
+lookup-with-requires-2 c κs = empty-right _ _ 16384
 
 returns-2 : tie.Need-returns-2
 returns-2 c = c .before .lookup-with2 .ensures

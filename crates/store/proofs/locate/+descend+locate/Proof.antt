@@ -1,12 +1,12 @@
-use Prim.Native.Nat.{ℕ, _+_, _*_, _-_, _<_}
+use Prim.Native.Nat.{ℕ, _+_, _*_, _-_, _/_, _<_}
 use mathlib.Core.Path.{_≡_, refl, sym, _∙_}
 use native.Mathlib.Omega.{arith}
 use denote.Ref.{now}
 use lib.ListN.{length}
-use lib.Seq.{length-take-le}
+use lib.Seq.{length-take-le, length-front}
 use borrow.Author.Needs.{needs}
 use Rattle.key.specs.Key.{keyOf}
-use Rattle.store.specs.Memory.{RightWords}
+use Rattle.store.specs.Memory.{half, RightWords}
 use Rattle.store.specs.SettleLaws.{sought-few}
 use Rattle.store.specs.CycleLaws.{Came, came-root, came-on, sought-empty, sought-zero, sought-deep, sought-done}
 use Rattle.store.specs.CycleLaws.{tells-newest, tells-few, tells-recalled, tells-ninth, tells-settled}
@@ -147,6 +147,8 @@ locate-meets t = locate-lts.spec (
     (λ c.
     let a = c .before .before .before .before .before .args in
     (c .before .before .before .before .before .pre .1 .1, tells-newest (now (a .image)) (a .newest) (a .q) (a .c) (c .before .if1 .taken) (c .place-of .result) (c .place-of .ensures)))
+    (λ c. search needs)
+    (λ c. sym (length-take-le _ _ (omega arith)))
     (λ c κs. search needs)
     (λ c. search needs)
     (λ c κs. search needs)
@@ -171,14 +173,17 @@ locate-meets t = locate-lts.spec (
     (λ c. sym (length-take-le _ _ (c .before .before .number-key .ensures .inside)))
     (λ c. search needs)
     (λ c κs. (omega (arith, c .before .before .before .before .before .before .before .before .before .before .before .before .before .pre .0), (omega (arith, c .before .before .before .before .before .before .before .before .before .before .before .before .before .pre .1 .0), c .before .before .before .before .before .before .before .before .before .before .before .before .before .pre .1 .1)))
+    (λ c. omega (arith, c .before .before .descend .kept .1 .1 .0))
+    (λ c. sym (length-take-le _ _ (omega (arith, c .before .before .before .descend .kept .1 .1 .0))))
     (λ c κs.
     let a = c .before .before .before .before .before .before .before .before .before .before .before .before .before .before .before .before .before .args in
     omega (arith, sought-few (now (a .image)) (a .newest) _ _ _ _ (a .q - 1) (c .before .before .before .descend .result) (c .before .before .before .descend .ensures .1), c .before .before .before .before .before .before .before .before .before .before .before .before .before .before .before .before .before .pre .1 .0))
-    (λ c. search needs)
+    (λ c. length-front (c .before .before .before .before .before .before .descend .last .1 .1 .0) (c .before .before .settle .last .1 .0) (length (now (c .before .before .before .before .before .before .before .before .before .before .before .before .before .before .before .before .before .before .before .before .args .memory)) / 2) (c .before .before .settle .kept .1 .0) ∙ c .before .before .before .before .before .before .descend .kept .1 .1 .0)
     (λ c.
     let a = c .before .before .before .before .before .before .before .before .before .before .before .before .before .before .before .before .before .before .before .before .args in
     let d = c .before .before .before .before .before .before .descend in
-    tells-settled (now (a .image)) (a .newest) (a .q) (a .c) _ (d .result) (c .before .before .before .before .before .before .before .before .before .before .before .before .before .before .before .before .if1 .left) (c .before .before .before .before .before .before .before .before .before .before .before .before .if3 .left) (c .before .before .before .before .before .before .before .before .before .before .before .before .before .before .before .before .before .before .before .before .pre .1 .0) (d .ensures .0) _ (c .before .before .before .before .before .before .before .before .before .number-key .ensures .text) (d .ensures .1) (c .before .before .settle .result) _ (c .before .before .settle .ensures .0) (c .before .before .settle .ensures .1))
+    let e : length (now (a .memory)) / 2 ≡ half (d .last .1 .1 .0) = omega (arith, d .kept .1 .1 .0) in
+    tells-settled (now (a .image)) (a .newest) (a .q) (a .c) (d .last .1 .1 .0) (length (now (a .memory)) / 2) e (d .result) (c .before .before .before .before .before .before .before .before .before .before .before .before .before .before .before .before .if1 .left) (c .before .before .before .before .before .before .before .before .before .before .before .before .if3 .left) (c .before .before .before .before .before .before .before .before .before .before .before .before .before .before .before .before .before .before .before .before .pre .1 .0) (d .ensures .0) _ (c .before .before .before .before .before .before .before .before .before .number-key .ensures .text) (d .ensures .1) (c .before .before .settle .result) _ (c .before .before .settle .ensures .0) (c .before .before .settle .ensures .1) (c .before .before .settle .kept .1 .0))
 
 pub +descend+locate-spec : {M : Type 1} → statement M
 +descend+locate-spec = close μ-descend μ-locate descend-meets locate-meets

@@ -4,13 +4,13 @@ use Rattle.store.proofs.walking.advance.Statement.{statement}
 use Rattle.store.proofs.walking.advance.Tie as tie
 
 advance-with-requires : tie.Need-advance-with-requires
-advance-with-requires c κs = empty-right _ _ 512
+advance-with-requires c κs = empty-right _ _ 1024
 
 returns : tie.Need-returns
 returns c = c .before .advance-with .ensures
 
 advance-with-requires-2 : tie.Need-advance-with-requires-2
-advance-with-requires-2 c κs = empty-right _ _ 8192
+advance-with-requires-2 c κs = empty-right _ _ 16384
 
 returns-2 : tie.Need-returns-2
 returns-2 c = c .before .advance-with2 .ensures
