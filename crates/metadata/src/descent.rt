@@ -7,10 +7,11 @@ use page::Judged;
 use page::Place;
 use position::Position;
 use refusal::Refusal;
+ghost use Prim.Native.Nat.{max};
 ghost use mathlib.Core.Path.{_≡_};
 ghost use Rattle.key.specs.Key.{keyOf};
 ghost use Rattle.content.specs.Content.{pageIn};
-ghost use Rattle.metadata.specs.Descent.{stepOf, advanceOf};
+ghost use Rattle.metadata.specs.Descent.{stepOf, advanceBy, advanceOf};
 
 // One page of a descent: the child to go on at, or what a leaf or a refusal answers.
 pub enum Step {
@@ -27,7 +28,7 @@ pub enum Advance {
 }
 
 // What the page at position `p` of a located chunk answers a lookup of `key`.
-fn step_at(image: &[u8], place: Place, p: u64, map: u32, kind: Kind, key: &[u8]) -> Step
+pub fn step_at(image: &[u8], place: Place, p: u64, map: u32, kind: Kind, key: &[u8]) -> Step
     ensures { λ r. ⌜ r ≡ stepOf (keyOf kind (now (key .entry))) (pageIn (now (image .entry)) place p map kind) ⌝ }
 {
     let j = page::judge(image, place, Position { bits: p }, map, kind);
@@ -60,6 +61,26 @@ fn step_at(image: &[u8], place: Place, p: u64, map: u32, kind: Kind, key: &[u8])
     }
 }
 
+// A descent after a page that answers `s`, which took `need` so far and `n` for the page.
+pub fn advance_by(s: Step, need: u32, n: u32) -> Advance
+    ensures { λ r. ⌜ r ≡ advanceBy (max need n) s ⌝ }
+{
+    let most = if need < n { n } else { need };
+    match s {
+        Step::Child(c) => Advance::To {
+            position: c,
+            need: most,
+        },
+        Step::Found { at, len } => Advance::Done(Looked::Found {
+            at,
+            len,
+            need: most,
+        }),
+        Step::Absent => Advance::Done(Looked::Absent { need: most }),
+        Step::Refused(r) => Advance::Done(Looked::Refused(r)),
+    }
+}
+
 // A descent after the page at `p`, whose chunk `l` tells of; `need` is what it took so far.
 pub fn advance_at(
     image: &[u8],
@@ -75,21 +96,7 @@ pub fn advance_at(
     match l {
         Told::Refused(r) => Advance::Done(Looked::Refused(r)),
         Told::At { place, need: n } => {
-            let most = if need < n { n } else { need };
-            let s = step_at(image, place, p, map, kind, key);
-            match s {
-                Step::Child(c) => Advance::To {
-                    position: c,
-                    need: most,
-                },
-                Step::Found { at, len } => Advance::Done(Looked::Found {
-                    at,
-                    len,
-                    need: most,
-                }),
-                Step::Absent => Advance::Done(Looked::Absent { need: most }),
-                Step::Refused(r) => Advance::Done(Looked::Refused(r)),
-            }
+            advance_by(step_at(image, place, p, map, kind, key), need, n)
         }
     }
 }
