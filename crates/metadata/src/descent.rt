@@ -1,6 +1,5 @@
 // One page of a descent, and a descent after it.
 use super::Looked;
-use super::Told;
 use content::Found;
 use key::Kind;
 use page::Judged;
@@ -11,7 +10,7 @@ ghost use Prim.Native.Nat.{max};
 ghost use mathlib.Core.Path.{_≡_};
 ghost use Rattle.key.specs.Key.{keyOf};
 ghost use Rattle.content.specs.Content.{pageIn};
-ghost use Rattle.metadata.specs.Descent.{stepOf, advanceBy, advanceOf};
+ghost use Rattle.metadata.specs.Descent.{stepOf, advanceBy};
 
 // One page of a descent: the child to go on at, or what a leaf or a refusal answers.
 pub enum Step {
@@ -78,25 +77,5 @@ pub fn advance_by(s: Step, need: u32, n: u32) -> Advance
         }),
         Step::Absent => Advance::Done(Looked::Absent { need: most }),
         Step::Refused(r) => Advance::Done(Looked::Refused(r)),
-    }
-}
-
-// A descent after the page at `p`, whose chunk `l` tells of; `need` is what it took so far.
-pub fn advance_at(
-    image: &[u8],
-    l: Told,
-    need: u32,
-    p: u64,
-    map: u32,
-    kind: Kind,
-    key: &[u8],
-) -> Advance
-    ensures { λ r. ⌜ r ≡ advanceOf (λ x. stepOf (keyOf kind (now (key .entry))) (pageIn (now (image .entry)) x p map kind)) need l ⌝ }
-{
-    match l {
-        Told::Refused(r) => Advance::Done(Looked::Refused(r)),
-        Told::At { place, need: n } => {
-            advance_by(step_at(image, place, p, map, kind, key), need, n)
-        }
     }
 }

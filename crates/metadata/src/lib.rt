@@ -4,7 +4,6 @@ mod descent;
 
 pub use descent::Advance;
 pub use descent::Step;
-pub use descent::advance_at;
 pub use descent::advance_by;
 pub use descent::step_at;
 use line::Fields;

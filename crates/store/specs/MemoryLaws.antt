@@ -1,10 +1,10 @@
 -- Laws of the memory: an empty one is right, what is recalled is known, and either half may be replaced by one that is as long and right.
 use Prim.Native.Nat.{ℕ, _+_, _-_, _/_}
 use mathlib.Core.Path.{_≡_, refl, sym, _∙_, ap}
-use mathlib.Core.List.{List, _++_}
+use mathlib.Core.List.{List, [], _++_, append-nil}
 use native.Mathlib.Omega.{arith}
-use lib.ListN.{length, take, drop, replicate, length-append, length-take, length-drop, length-replicate, replicate-append-replicate}
-use lib.Seq.{take-at, drop-at}
+use lib.ListN.{length, take, drop, replicate, length-append, length-take, length-drop, length-replicate, replicate-append-replicate, drop-of-length-le}
+use lib.Seq.{take-all, take-at, drop-at}
 use Rattle.locating.specs.Known.{Known}
 use Rattle.opening.specs.declared.chunk.Chunk.{Chunk}
 use Rattle.page.specs.declared.Place.{Place}
@@ -15,6 +15,22 @@ use Rattle.stretch.specs.Stretch.{Stretches}
 use Rattle.stretch.specs.MarksLaws.{empty-stretches}
 use Rattle.store.specs.Store.{metadata}
 use Rattle.store.specs.Memory.{half, RightWords}
+
+-- The words from h on are lent as `&mut ws[h..]`: so many of them, and there is nothing after those.
+module _ (ws : List ℕ) (h : ℕ) where
+  all : take (length ws - h) (drop h ws) ≡ drop h ws
+  all = take-all (length ws - h) (drop h ws) (omega (arith, length-drop h ws))
+
+  none : drop (length ws - h) (drop h ws) ≡ []
+  none = drop-of-length-le (drop h ws) {i = length ws - h} (omega (arith, length-drop h ws))
+
+  -- e comes back
+  module _ (e : List ℕ) (n : length e ≡ length (take (length ws - h) (drop h ws))) where
+    as-long : length e ≡ length (drop h ws)
+    as-long = rw all at n
+
+    pub length-back : length (take h ws ++ (e ++ drop (length ws - h) (drop h ws))) ≡ length ws
+    length-back = rw (none, append-nil) (omega (arith, as-long, length-append (take h ws) e, length-take h ws, length-drop h ws))
 
 module _ (image : List ℕ) (newest : Chunk) where
   -- two parts of which the first is the half of both
@@ -39,14 +55,21 @@ module _ (image : List ℕ) (newest : Chunk) where
         → Known (metadata image newest) c l need
     recalled-known c e = recalled-holds (Known (metadata image newest)) (take (half ws) ws) (right .known) c e
 
-    -- h is how the code has the half, and e what comes back where a part is lent
-    module _ (h : ℕ) (is : h ≡ half ws) (e : List ℕ) where
-      pub right-front : length e ≡ length (take h ws) → Holds (Known (metadata image newest)) e → RightWords image newest (e ++ drop h ws)
-      right-front n known =
+    -- h is the half as the code has it, and e what comes back of the part that is lent
+    module _ (h : ℕ) (is : h ≡ half ws) where
+      -- the first is lent as `&mut memory[..h]`
+      pub right-front : (e : List ℕ) → length e ≡ length (take h ws) → Holds (Known (metadata image newest)) e
+          → RightWords image newest (e ++ drop h ws)
+      right-front e n known =
           joined-right (e ++ drop h ws) e (drop h ws) refl
           (omega (arith, length-append e (drop h ws), length-take h ws, length-drop h ws)) known (rw is (right .stretches))
 
-      pub right-back : length e ≡ length (drop h ws) → Stretches image e → RightWords image newest (take h ws ++ e)
-      right-back n stretches =
-          joined-right (take h ws ++ e) (take h ws) e refl
-          (omega (arith, length-append (take h ws) e, length-take h ws, length-drop h ws)) (rw is (right .known)) stretches
+      -- the second is lent as `&mut memory[h..]`
+      pub back-right : Stretches image (take (length ws - h) (drop h ws))
+      back-right = rw (all ws h, is) (right .stretches)
+
+      pub right-back : (e : List ℕ) → length e ≡ length (take (length ws - h) (drop h ws)) → Stretches image e
+          → RightWords image newest (take h ws ++ (e ++ drop (length ws - h) (drop h ws)))
+      right-back e n stretches =
+          rw (none ws h, append-nil) (joined-right (take h ws ++ e) (take h ws) e refl
+          (omega (arith, as-long ws h e n, length-append (take h ws) e, length-take h ws, length-drop h ws)) (rw is (right .known)) stretches)

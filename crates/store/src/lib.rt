@@ -10,6 +10,7 @@ mod locate;
 mod read;
 mod settle;
 mod walking;
+mod wide;
 
 pub use ask::count;
 pub use ask::index;

@@ -1,13 +1,14 @@
 // Locating a chunk and a descent, which ask each other. What was located is remembered in the first half
-// of an array that the caller lends; `q` is how many questions may still be opened.
+// of an array that the caller lends, and what was read of wide pages in the second; `q` is how many
+// questions may still be opened.
 use super::keys::number_key;
 use super::settle::settle;
+use super::wide::advance_in;
 use key::Kind;
 use memory::Recalled;
 use metadata::Advance;
 use metadata::Looked;
 use metadata::Told;
-use metadata::advance_at;
 use metadata::place_of;
 use opening::Chunk;
 use position::Position;
@@ -75,12 +76,13 @@ pub(crate) fn descend(
     let mut p = root;
     let mut need: u32 = 0;
     let mut left: u32 = 16;
+    let h = memory.len() / 2;
     while 0 < left {
         if p == 0 {
             return Looked::Refused(Refusal::new(Refusal::PLACE));
         }
         let l = locate(image, newest, memory, Position { bits: p }.chunk(), q);
-        let a = advance_at(image, l, need, p, map, kind, key);
+        let a = advance_in(image, &mut memory[h..], l, need, p, map, kind, key);
         match a {
             Advance::To { position, need: n } => {
                 p = position;

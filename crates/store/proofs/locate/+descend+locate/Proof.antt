@@ -7,6 +7,7 @@ use lib.Seq.{length-take-le, length-front}
 use borrow.Author.Needs.{needs}
 use Rattle.key.specs.Key.{keyOf}
 use Rattle.store.specs.Memory.{half, RightWords}
+use Rattle.store.specs.MemoryLaws.{length-back, back-right, right-back}
 use Rattle.store.specs.SettleLaws.{sought-few}
 use Rattle.store.specs.CycleLaws.{Came, came-root, came-on, sought-empty, sought-zero, sought-deep, sought-done}
 use Rattle.store.specs.CycleLaws.{tells-newest, tells-few, tells-recalled, tells-ninth, tells-settled}
@@ -24,7 +25,7 @@ use Rattle.store.proofs.keys.number_key.Reads as number-key-reads
 use Rattle.memory.proofs.recall.Reads as recall-reads
 use Rattle.metadata.proofs.place_of.Reads as place-of-reads
 use Rattle.store.proofs.settle.settle.Reads as settle-reads
-use Rattle.metadata.proofs.advance_at.Reads as advance-at-reads
+use Rattle.store.proofs.wide.advance_in.Reads as advance-in-reads
 use Rattle.store.proofs.locate.+descend+locate.{statement}
 use Rattle.store.proofs.locate.+descend+locate.Tie.{close}
 
@@ -47,12 +48,12 @@ abbrev locate-below : ℕ → In 2 locate-kinds.ps
 locate-below t = and 2 locate-kinds.ps (falls 2 locate-kinds.ps _<_ μ-locate t) locate.Pre
 
 abbrev descend-Inv-loop : descend-lts.InvT-loop
-descend-Inv-loop image newest memory₀ root map kind key q p₀ need₀ left₀ memory p need left =
+descend-Inv-loop image newest memory₀ root map kind key q p₀ need₀ left₀ h memory p need left =
     RightWords image newest memory × Came image newest map kind root (keyOf kind key) q need left p ×
     (length memory ≡ length memory₀)
 
 abbrev descend-μ-loop : descend-lts.MeasureT-loop
-descend-μ-loop image newest memory₀ root map kind key q p₀ need₀ left₀ memory p need left = left
+descend-μ-loop image newest memory₀ root map kind key q p₀ need₀ left₀ h memory p need left = left
 
 descend-meets : {M : Type 1} (t : ℕ) → descend-lts.Closed (
   new-reads.Asked,
@@ -61,8 +62,8 @@ descend-meets : {M : Type 1} (t : ℕ) → descend-lts.Closed (
   chunk-reads.Learnt,
   locate-below t,
   locate.Post,
-  advance-at-reads.Asked,
-  advance-at-reads.Learnt,
+  advance-in-reads.Asked,
+  advance-in-reads.Learnt,
 ) (descend-at t) descend.Post M
 descend-meets t = descend-lts.spec (
   new-reads.Asked,
@@ -71,8 +72,8 @@ descend-meets t = descend-lts.spec (
   chunk-reads.Learnt,
   locate-below t,
   locate.Post,
-  advance-at-reads.Asked,
-  advance-at-reads.Learnt,
+  advance-in-reads.Asked,
+  advance-in-reads.Learnt,
 )
     (descend-at t)
     descend.Post
@@ -92,20 +93,36 @@ descend-meets t = descend-lts.spec (
     (l .inv .0, sought-zero (now (a .image)) (a .newest) (a .map) (a .kind) (a .root) (keyOf (a .kind) (now (a .key))) (a .q) (l .left) (l .p) (omega arith) (c .before .if2 .taken) (l .inv .1) (c .new .ensures)))
     (λ c κs. search needs)
     (λ c κs. (omega (arith, c .before .before .before .before .before .before .before .before .before .pre .0), (omega (arith, c .before .before .before .before .before .before .before .before .before .pre .1 .0), c .before .before .before .before .loop .inv .0)))
-    (λ c κs. search needs)
+    (λ c. omega (arith, c .before .before .before .before .before .before .before .before .before .before .before .before .good .1 .1 .0 .1))
+    (λ c. omega (arith, c .before .before .locate .kept .1 .1 .0, c .before .before .before .before .before .before .before .loop .inv .2))
+    (λ c. omega (arith, c .before .before .locate .kept .1 .1 .0, c .before .before .before .before .before .before .before .loop .inv .2))
     (λ c. search needs)
+    (λ c κs.
+    let a = c .before .before .before .before .before .before .before .before .before .before .before .before .before .args in
+    let f = c .before .before .before .locate in
+    let h : length (now (a .memory)) / 2 ≡ half (f .last .1 .1 .0) = omega (arith, f .kept .1 .1 .0, c .before .before .before .before .before .before .before .before .loop .inv .2) in
+    back-right (now (a .image)) (a .newest) (f .ensures .0) (length (now (a .memory)) / 2) h)
+    (λ c. search needs)
+    (λ c. search needs)
+    (λ c. length-back (c .before .before .before .before .before .before .before .before .before .locate .last .1 .1 .0) (length (now (c .before .before .before .before .before .before .before .before .before .before .before .before .before .before .before .before .before .before .before .args .memory)) / 2) (c .before .before .before .before .before .advance-in .last .1 .0) (c .before .before .before .before .before .advance-in .kept .1 .0) ∙ c .before .before .before .before .before .before .before .before .before .locate .kept .1 .1 .0 ∙ c .before .before .before .before .before .before .before .before .before .before .before .before .before .before .loop .inv .2)
+    (λ c.
+    let a = c .before .before .before .before .before .before .before .before .before .before .before .before .before .before .before .before .before .before .before .args in
+    let l = c .before .before .before .before .before .before .before .before .before .before .before .before .before .before .loop in
+    let f = c .before .before .before .before .before .before .before .before .before .locate in
+    let v = c .before .before .before .before .before .advance-in in
+    let h : length (now (a .memory)) / 2 ≡ half (f .last .1 .1 .0) = omega (arith, f .kept .1 .1 .0, l .inv .2) in
+    let right = right-back (now (a .image)) (a .newest) (f .ensures .0) (length (now (a .memory)) / 2) h (v .last .1 .0) (v .kept .1 .0) (v .ensures .0) in
+    (right, sought-done (now (a .image)) (a .newest) (a .map) (a .kind) (a .root) (keyOf (a .kind) (now (a .key))) (a .q) (l .need) (l .left) (l .p) _ (f .result) (v .result) (c .before .before .before .before .before .before .before .before .before .before .before .before .before .loop-test .taken) (c .before .before .before .before .before .before .before .before .before .before .before .before .if2 .left) (l .inv .1) (c .before .before .before .before .before .before .before .before .before .before .chunk .ensures) (f .ensures .1) (v .ensures .1) (c .before .a2 .given .1)))
     (λ c. search needs)
     (λ c. search needs)
     (λ c.
-    let a = c .before .before .before .before .before .before .before .before .before .before .before .before .before .before .before .before .args in
-    let l = c .before .before .before .before .before .before .before .before .before .before .before .loop in
-    (c .before .before .before .before .before .before .locate .ensures .0, sought-done (now (a .image)) (a .newest) (a .map) (a .kind) (a .root) (keyOf (a .kind) (now (a .key))) (a .q) (l .need) (l .left) (l .p) _ (c .before .before .before .before .before .before .locate .result) (c .before .before .before .advance-at .result) (omega arith) (c .before .before .before .before .before .before .before .before .before .if2 .left) (l .inv .1) (c .before .before .before .before .before .before .before .chunk .ensures) (c .before .before .before .before .before .before .locate .ensures .1) (c .before .before .before .advance-at .ensures) (c .before .a2 .given .1)))
-    (λ c. search needs)
-    (λ c. search needs)
-    (λ c.
-    let a = c .before .before .before .before .before .before .before .before .before .before .before .before .before .before .before .before .args in
-    let l = c .before .before .before .before .before .before .before .before .before .before .before .loop in
-    (c .before .before .before .before .before .before .locate .ensures .0, came-on (now (a .image)) (a .newest) (a .map) (a .kind) (a .root) (keyOf (a .kind) (now (a .key))) (a .q) (l .need) (l .left) (l .p) _ (c .before .before .before .before .before .before .locate .result) (c .before .before .before .advance-at .result) (omega arith) (c .before .before .before .before .before .before .before .before .before .if2 .left) (l .inv .1) (c .before .before .before .before .before .before .before .chunk .ensures) (c .before .before .before .before .before .before .locate .ensures .1) (c .before .before .before .advance-at .ensures) (c .before .a .given .1), search needs))
+    let a = c .before .before .before .before .before .before .before .before .before .before .before .before .before .before .before .before .before .before .before .args in
+    let l = c .before .before .before .before .before .before .before .before .before .before .before .before .before .before .loop in
+    let f = c .before .before .before .before .before .before .before .before .before .locate in
+    let v = c .before .before .before .before .before .advance-in in
+    let h : length (now (a .memory)) / 2 ≡ half (f .last .1 .1 .0) = omega (arith, f .kept .1 .1 .0, l .inv .2) in
+    let right = right-back (now (a .image)) (a .newest) (f .ensures .0) (length (now (a .memory)) / 2) h (v .last .1 .0) (v .kept .1 .0) (v .ensures .0) in
+    (right, came-on (now (a .image)) (a .newest) (a .map) (a .kind) (a .root) (keyOf (a .kind) (now (a .key))) (a .q) (l .need) (l .left) (l .p) _ (f .result) (v .result) (c .before .before .before .before .before .before .before .before .before .before .before .before .before .loop-test .taken) (c .before .before .before .before .before .before .before .before .before .before .before .before .if2 .left) (l .inv .1) (c .before .before .before .before .before .before .before .before .before .before .chunk .ensures) (f .ensures .1) (v .ensures .1) (c .before .a .given .1), length-back (f .last .1 .1 .0) (length (now (a .memory)) / 2) (v .last .1 .0) (v .kept .1 .0) ∙ f .kept .1 .1 .0 ∙ l .inv .2))
     (λ c κs. search needs)
     (λ c. search needs)
     (λ c.
