@@ -20,3 +20,7 @@ pub mod WalkedLaws
 pub mod ExamineLaws
 pub mod TallyLaws
 pub mod CameLaws
+pub mod Passing
+pub mod PassingLaws
+pub mod WidePageLaws
+pub mod WideHeadLaws

@@ -2,13 +2,19 @@
 // asked of a map. Locating a chunk asks the metadata, whose pages stand in chunks that may have to be
 // located first.
 mod ask;
+mod counts;
 mod down;
 mod examining;
 mod fetch;
 mod keys;
+mod learn;
 mod locate;
+mod passing;
 mod read;
 mod settle;
+mod step;
+mod trail;
+mod values;
 mod walking;
 mod wide;
 

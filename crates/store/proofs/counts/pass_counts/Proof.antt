@@ -1,0 +1,91 @@
+use Prim.Native.Nat.{_<_, _^_}
+use mathlib.Core.Path.{_≡_, refl, sym, _∙_}
+use native.Mathlib.Omega.{arith}
+use lib.ListN.{length}
+use Rattle.item.specs.Item.{counted}
+use Rattle.item.specs.CountLaws.{countedFrom, counted-from, counted-none, counted-more, counted-over, counted-bad}
+use Rattle.stretch.specs.Stretch.{Stretches}
+use Rattle.stretch.specs.MarksLaws.{found-counts}
+use Rattle.stretch.specs.JumpLaws.{counted-jump}
+use borrow.Author.Needs.{needs}
+use Rattle.store.proofs.counts.pass_counts.Statement.{statement}
+use Rattle.store.proofs.counts.pass_counts.Tie as tie
+
+abbrev Inv-loop : tie.InvT-loop
+Inv-loop image marks₀ n at left₀ i₀ sum₀ t₀ marks left i sum t = Stretches image marks × (countedFrom image left i sum ≡ counted image n at) × (sum < 2 ^ 48) × (length marks ≡ length marks₀)
+
+abbrev μ-loop : tie.MeasureT-loop
+μ-loop image marks₀ n at left₀ i₀ sum₀ t₀ marks left i sum t = left
+
+loop-holds : tie.Need-loop-holds Inv-loop μ-loop
+loop-holds c = (c .before .before .before .before .pre, counted-from _ _ _, omega arith, refl)
+
+sub-left : tie.Need-sub-left Inv-loop μ-loop
+sub-left c = let f = c .before .before .can-pass .ensures (c .before .if1 .taken) in omega (arith, f .0, f .1, f .2)
+
+add-sum : tie.Need-add-sum Inv-loop μ-loop
+add-sum c = let f = c .before .before .before .can-pass .ensures (c .before .before .if1 .taken) in omega (arith, f .0, f .1, f .2)
+
+loop-less : tie.Need-loop-less Inv-loop μ-loop
+loop-less c = let f = c .before .before .before .before .before .can-pass .ensures (c .before .before .before .before .if1 .taken) in omega (arith, f .0, f .1, f .2)
+
+loop-again : tie.Need-loop-again Inv-loop μ-loop
+loop-again c =
+    let l = c .before .before .before .before .before .before .before .before .before .loop in
+    let f = c .before .before .before .before .before .can-pass .ensures (c .before .before .before .before .if1 .taken) in
+    (l .inv .0, sym (counted-jump _ (l .left) (l .i) (l .sum) (found-counts (l .inv .0) _ _ (c .before .before .before .before .before .before .met .ensures (f .0)) (f .0)) (f .1) (f .2)) ∙ l .inv .1, f .2, l .inv .3)
+
+returns : tie.Need-returns Inv-loop μ-loop
+returns c =
+    let l = c .before .before .before .before .before .before .before .before .loop in
+    (l .inv .0, sym (counted-bad _ (l .left) (l .i) (l .sum) (omega arith) (sym (c .before .before .read-var .ensures) ∙ c .enum-told .given .1)) ∙ l .inv .1)
+
+returns-2 : tie.Need-returns-2 Inv-loop μ-loop
+returns-2 c =
+    let l = c .before .before .before .before .before .before .before .before .before .before .loop in
+    (l .inv .0, sym (counted-over _ (l .left) (l .i) (l .sum) (omega arith) (sym (c .before .before .before .before .read-var .ensures) ∙ c .before .before .v .given .1) (omega arith)) ∙ l .inv .1)
+
+tread-requires : tie.Need-tread-requires Inv-loop μ-loop
+tread-requires c κs = c .before .before .before .before .before .before .before .before .before .before .before .loop .inv .0
+
+loop-again-2 : tie.Need-loop-again-2 Inv-loop μ-loop
+loop-again-2 c =
+    let l = c .before .before .before .before .before .before .before .before .before .before .before .before .before .before .loop in
+    (c .before .before .tread .ensures, sym (counted-more _ (l .left) (l .i) (l .sum) (omega arith) (sym (c .before .before .before .before .before .before .before .before .read-var .ensures) ∙ c .before .before .before .before .before .before .v .given .1) (omega arith)) ∙ l .inv .1, omega arith, search needs)
+
+returns-3 : tie.Need-returns-3 Inv-loop μ-loop
+returns-3 c =
+    let l = c .before .loop in
+    (l .inv .0, sym (counted-none _ (l .left) (l .i) (l .sum) (omega arith)) ∙ l .inv .1)
+
+pub pass-counts-spec : {M : Type 1} → statement M
+pass-counts-spec =
+    tie.close
+    (tie.spec
+    Inv-loop
+    μ-loop
+    (λ c κs. search needs)
+    loop-holds
+    (λ c κs. search needs)
+    (λ c κs. search needs)
+    (λ c. search needs)
+    sub-left
+    add-sum
+    (λ c κs. search needs)
+    loop-less
+    loop-again
+    (λ c κs. search needs)
+    (λ c. search needs)
+    (λ c. search needs)
+    (λ c. search needs)
+    returns
+    (λ c. search needs)
+    (λ c. search needs)
+    returns-2
+    (λ c. search needs)
+    (λ c. search needs)
+    tread-requires
+    (λ c. search needs)
+    loop-again-2
+    (λ c. search needs)
+    returns-3)

@@ -1,0 +1,70 @@
+use borrow.Author.Tests.{leb-true}
+use mathlib.Core.Path.{_≡_, refl, sym, _∙_}
+use native.Mathlib.Omega.{arith}
+use lib.ListN.{length}
+use Rattle.item.specs.declared.Form.the-variants.{Bytes}
+use Rattle.item.specs.Item.{skipped}
+use Rattle.item.specs.ItemLaws.{skipped-none, skipped-more, skipped-bad}
+use Rattle.stretch.specs.Stretch.{Stretches}
+use Rattle.stretch.specs.MarksLaws.{found-values}
+use Rattle.stretch.specs.JumpLaws.{skipped-jump}
+use borrow.Author.Needs.{needs}
+use Rattle.store.proofs.values.pass_values.Statement.{statement}
+use Rattle.store.proofs.values.pass_values.Tie as tie
+
+abbrev Inv-loop : tie.InvT-loop
+Inv-loop image marks₀ n at left₀ i₀ t₀ marks left i t = Stretches image marks × (skipped image Bytes left i ≡ skipped image Bytes n at) × (length marks ≡ length marks₀)
+
+abbrev μ-loop : tie.MeasureT-loop
+μ-loop image marks₀ n at left₀ i₀ t₀ marks left i t = left
+
+loop-holds : tie.Need-loop-holds Inv-loop μ-loop
+loop-holds c = (c .before .before .before .before .pre, refl, refl)
+
+loop-again : tie.Need-loop-again Inv-loop μ-loop
+loop-again c =
+    let l = c .before .before .before .before .before .before .before .before .before .before .loop in
+    (l .inv .0, sym (skipped-jump _ _ (l .left) (l .i) (found-values (l .inv .0) _ _ (c .before .before .before .before .before .before .before .met .ensures (c .before .before .before .before .before .if1 .taken)) (c .before .before .before .before .before .if1 .taken)) (leb-true _ _ (c .before .before .before .if2 .taken))) ∙ l .inv .1, l .inv .2)
+
+returns : tie.Need-returns Inv-loop μ-loop
+returns c =
+    let l = c .before .before .before .before .before .before .before .before .loop in
+    (l .inv .0, sym (skipped-bad _ _ (l .left) (l .i) (omega arith) (sym (c .before .before .item-at .ensures) ∙ c .enum-told .given .1)) ∙ l .inv .1)
+
+tread-requires : tie.Need-tread-requires Inv-loop μ-loop
+tread-requires c κs = c .before .before .before .before .before .before .before .before .before .before .loop .inv .0
+
+loop-again-2 : tie.Need-loop-again-2 Inv-loop μ-loop
+loop-again-2 c =
+    let l = c .before .before .before .before .before .before .before .before .before .before .before .before .before .loop in
+    (c .before .before .tread .ensures, sym (skipped-more _ _ (l .left) (l .i) (omega arith) (sym (c .before .before .before .before .before .before .before .item-at .ensures) ∙ c .before .before .before .before .before .it .given .1)) ∙ l .inv .1, search needs)
+
+returns-2 : tie.Need-returns-2 Inv-loop μ-loop
+returns-2 c =
+    let l = c .before .loop in
+    (l .inv .0, sym (skipped-none _ _ (l .left) (l .i) (omega arith)) ∙ l .inv .1)
+
+pub pass-values-spec : {M : Type 1} → statement M
+pass-values-spec =
+    tie.close
+    (tie.spec
+    Inv-loop
+    μ-loop
+    (λ c κs. search needs)
+    loop-holds
+    (λ c κs. search needs)
+    (λ c. search needs)
+    (λ c κs. search needs)
+    (λ c. search needs)
+    loop-again
+    (λ c κs. search needs)
+    (λ c. search needs)
+    (λ c. search needs)
+    (λ c. search needs)
+    returns
+    (λ c. search needs)
+    tread-requires
+    (λ c. search needs)
+    loop-again-2
+    (λ c. search needs)
+    returns-2)
