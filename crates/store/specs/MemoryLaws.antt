@@ -42,12 +42,12 @@ module _ (image : List ℕ) (newest : Chunk) where
         stretches = rw (ap (drop (half ws)) e ∙ drop-at a b (half ws) n) stretches;
       }
 
-  pub empty-right : (n : ℕ) → RightWords image newest (replicate n 0)
-  empty-right n =
+  pub empty-right : (n : ℕ) {ws : List ℕ} → ws ≡ replicate n 0 → RightWords image newest ws
+  empty-right n {ws} e =
       let m : n / 2 + (n - n / 2) ≡ n = omega arith in
-      joined-right (replicate n 0) (replicate (n / 2) 0) (replicate (n - n / 2) 0)
-      (sym (replicate-append-replicate (n / 2) (n - n / 2) 0 ∙ ap (λ (k : ℕ). replicate k 0) m))
-      (omega (arith, length-replicate {A = ℕ} n 0, length-replicate {A = ℕ} (n / 2) 0))
+      joined-right ws (replicate (n / 2) 0) (replicate (n - n / 2) 0)
+      (e ∙ sym (replicate-append-replicate (n / 2) (n - n / 2) 0 ∙ ap (λ (k : ℕ). replicate k 0) m))
+      (omega (arith, ap length e, length-replicate {A = ℕ} n 0, length-replicate {A = ℕ} (n / 2) 0))
       (empty-holds (Known (metadata image newest)) (n / 2)) (empty-stretches image (n - n / 2))
 
   module _ {ws : List ℕ} (right : RightWords image newest ws) where

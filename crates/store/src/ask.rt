@@ -4,9 +4,11 @@ use super::Fetched;
 use super::QUESTIONS;
 use super::SMALL;
 use super::fetch::fetch_from;
+use super::large_memory;
 use super::locate::descend;
 use super::read::read_page;
 use super::read::root_at;
+use super::small_memory;
 use key::Kind;
 use metadata::Root;
 use metadata::Value;
@@ -46,10 +48,10 @@ pub fn lookup(image: &[u8], newest: Chunk, map: u32, kind: Kind, key: &[u8]) -> 
     ensures { λ r. ⌜ r ≡ valueOf (lookupIn (now (image .entry)) newest map kind (keyOf kind (now (key .entry)))) ⌝ }
 {
     if image.len() < SMALL {
-        let mut memory = [0u64; 1024];
+        let mut memory = small_memory();
         return lookup_with(image, newest, &mut memory, map, kind, key);
     }
-    let mut memory = [0u64; 16384];
+    let mut memory = large_memory();
     lookup_with(image, newest, &mut memory, map, kind, key)
 }
 
@@ -76,10 +78,10 @@ pub fn index(image: &[u8], newest: Chunk, map: u32, kind: Kind, index: u64) -> F
     ensures { λ r. ⌜ r ≡ fetchedOf (indexIn (now (image .entry)) newest map kind index) ⌝ }
 {
     if image.len() < SMALL {
-        let mut memory = [0u64; 1024];
+        let mut memory = small_memory();
         return index_with(image, newest, &mut memory, map, kind, index);
     }
-    let mut memory = [0u64; 16384];
+    let mut memory = large_memory();
     index_with(image, newest, &mut memory, map, kind, index)
 }
 
@@ -134,9 +136,9 @@ pub fn count(image: &[u8], newest: Chunk, map: u32, kind: Kind) -> Counted
     ensures { λ r. ⌜ r ≡ countedOf (countIn (now (image .entry)) newest map kind) ⌝ }
 {
     if image.len() < SMALL {
-        let mut memory = [0u64; 1024];
+        let mut memory = small_memory();
         return count_with(image, newest, &mut memory, map, kind);
     }
-    let mut memory = [0u64; 16384];
+    let mut memory = large_memory();
     count_with(image, newest, &mut memory, map, kind)
 }

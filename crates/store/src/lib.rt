@@ -36,6 +36,7 @@ use read::root_at;
 use refusal::Refusal;
 pub use walking::advance;
 ghost use mathlib.Core.Path.{_≡_};
+ghost use lib.ListN.{replicate};
 ghost use Rattle.metadata.specs.Answers.{placeSaid, idSaid, rootSaid};
 ghost use Rattle.store.specs.Store.{chunkAt, namedMap, mapRoot};
 ghost use Rattle.store.specs.Memory.{RightWords};
@@ -61,6 +62,19 @@ pub enum Counted {
 // to what does the work.
 pub const SMALL: usize = 1048576;
 
+// The two are made here alone, since a check takes seconds for each array that is written out.
+fn small_memory() -> [u64; 1024]
+    ensures { λ r. ⌜ r ≡ replicate 1024 0 ⌝ }
+{
+    [0u64; 1024]
+}
+
+fn large_memory() -> [u64; 16384]
+    ensures { λ r. ⌜ r ≡ replicate 16384 0 ⌝ }
+{
+    [0u64; 16384]
+}
+
 // How many questions may be open at once.
 pub const QUESTIONS: u32 = 8;
 
@@ -72,10 +86,10 @@ pub fn chunk_place(image: &[u8], newest: Chunk, chunk: u32) -> Located
     ensures { λ r. ⌜ placeSaid r ≡ chunkAt (now (image .entry)) newest 8 chunk ⌝ }
 {
     if image.len() < SMALL {
-        let mut memory = [0u64; 1024];
+        let mut memory = small_memory();
         return located_by(locate(image, newest, &mut memory, chunk, QUESTIONS));
     }
-    let mut memory = [0u64; 16384];
+    let mut memory = large_memory();
     located_by(locate(image, newest, &mut memory, chunk, QUESTIONS))
 }
 
@@ -106,10 +120,10 @@ pub fn map_id(image: &[u8], newest: Chunk, name: &[u8]) -> Id
     ensures { λ r. ⌜ idSaid r ≡ namedMap (now (image .entry)) newest (now (name .entry)) ⌝ }
 {
     if image.len() < SMALL {
-        let mut memory = [0u64; 1024];
+        let mut memory = small_memory();
         return named_with(image, newest, &mut memory, name);
     }
-    let mut memory = [0u64; 16384];
+    let mut memory = large_memory();
     named_with(image, newest, &mut memory, name)
 }
 
@@ -118,9 +132,9 @@ pub fn map_root(image: &[u8], newest: Chunk, map: u32) -> Root
     ensures { λ r. ⌜ rootSaid r ≡ mapRoot (now (image .entry)) newest map ⌝ }
 {
     if image.len() < SMALL {
-        let mut memory = [0u64; 1024];
+        let mut memory = small_memory();
         return root_at(image, newest, &mut memory, map);
     }
-    let mut memory = [0u64; 16384];
+    let mut memory = large_memory();
     root_at(image, newest, &mut memory, map)
 }

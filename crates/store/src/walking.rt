@@ -2,7 +2,9 @@
 use super::SMALL;
 use super::down::down_by;
 use super::down::leftmost_from;
+use super::large_memory;
 use super::read::root_at;
+use super::small_memory;
 use cursor::Down;
 use cursor::Stepped;
 use cursor::Walk;
@@ -96,9 +98,9 @@ pub fn advance(image: &[u8], newest: Chunk, map: u32, kind: Kind, w: Walk) -> St
     ensures { λ r. ⌜ r ≡ stepIn (now (image .entry)) newest map kind w ⌝ }
 {
     if image.len() < SMALL {
-        let mut memory = [0u64; 1024];
+        let mut memory = small_memory();
         return advance_with(image, newest, &mut memory, map, kind, w);
     }
-    let mut memory = [0u64; 16384];
+    let mut memory = large_memory();
     advance_with(image, newest, &mut memory, map, kind, w)
 }

@@ -4,13 +4,13 @@ use Rattle.store.proofs.ask.count.Statement.{statement}
 use Rattle.store.proofs.ask.count.Tie as tie
 
 count-with-requires : tie.Need-count-with-requires
-count-with-requires c κs = empty-right _ _ 1024
+count-with-requires c κs = empty-right _ _ 1024 (c .before .small-memory .ensures)
 
 returns : tie.Need-returns
 returns c = c .before .count-with .ensures
 
 count-with-requires-2 : tie.Need-count-with-requires-2
-count-with-requires-2 c κs = empty-right _ _ 16384
+count-with-requires-2 c κs = empty-right _ _ 16384 (c .before .large-memory .ensures)
 
 returns-2 : tie.Need-returns-2
 returns-2 c = c .before .count-with2 .ensures
@@ -19,9 +19,11 @@ pub count-spec : {M : Type 1} → statement M
 count-spec =
     tie.close
     (tie.spec
+    (λ c κs. search needs)
     (λ c. search needs)
     count-with-requires
     returns
+    (λ c κs. search needs)
     (λ c. search needs)
     count-with-requires-2
     returns-2)

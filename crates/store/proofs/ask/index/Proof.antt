@@ -4,13 +4,13 @@ use Rattle.store.proofs.ask.index.Statement.{statement}
 use Rattle.store.proofs.ask.index.Tie as tie
 
 index-with-requires : tie.Need-index-with-requires
-index-with-requires c κs = empty-right _ _ 1024
+index-with-requires c κs = empty-right _ _ 1024 (c .before .small-memory .ensures)
 
 returns : tie.Need-returns
 returns c = c .before .index-with .ensures
 
 index-with-requires-2 : tie.Need-index-with-requires-2
-index-with-requires-2 c κs = empty-right _ _ 16384
+index-with-requires-2 c κs = empty-right _ _ 16384 (c .before .large-memory .ensures)
 
 returns-2 : tie.Need-returns-2
 returns-2 c = c .before .index-with2 .ensures
@@ -19,9 +19,11 @@ pub index-spec : {M : Type 1} → statement M
 index-spec =
     tie.close
     (tie.spec
+    (λ c κs. search needs)
     (λ c. search needs)
     index-with-requires
     returns
+    (λ c κs. search needs)
     (λ c. search needs)
     index-with-requires-2
     returns-2)

@@ -4,13 +4,13 @@ use Rattle.store.proofs.ask.lookup.Statement.{statement}
 use Rattle.store.proofs.ask.lookup.Tie as tie
 
 lookup-with-requires : tie.Need-lookup-with-requires
-lookup-with-requires c κs = empty-right _ _ 1024
+lookup-with-requires c κs = empty-right _ _ 1024 (c .before .small-memory .ensures)
 
 returns : tie.Need-returns
 returns c = c .before .lookup-with .ensures
 
 lookup-with-requires-2 : tie.Need-lookup-with-requires-2
-lookup-with-requires-2 c κs = empty-right _ _ 16384
+lookup-with-requires-2 c κs = empty-right _ _ 16384 (c .before .large-memory .ensures)
 
 returns-2 : tie.Need-returns-2
 returns-2 c = c .before .lookup-with2 .ensures
@@ -19,9 +19,11 @@ pub lookup-spec : {M : Type 1} → statement M
 lookup-spec =
     tie.close
     (tie.spec
+    (λ c κs. search needs)
     (λ c. search needs)
     lookup-with-requires
     returns
+    (λ c κs. search needs)
     (λ c. search needs)
     lookup-with-requires-2
     returns-2)
