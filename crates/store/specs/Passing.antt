@@ -4,7 +4,9 @@
 --   Near p                   its numbers stay below 2^32
 --   Jumped s leaf k p q      the pass q comes to the answer of p, and has no more keys to go
 --   afterKey p next o leaf   the pass after a key that compares so with the lookup's
---   Turned s leaf k p t      what one key more says of the answer
+--   Stepped s leaf k p t     what one key more says of the answer
+--   Turned s leaf k p t      what some keys more say of it
+--   RunOf, SummedOf          the same of values, and of recorded counts
 use Prim.Native.Nat.{ℕ, _+_, _-_, _^_, _<_, _≤_}
 use mathlib.Core.Path.{_≡_}
 use mathlib.Core.Bool.{Bool, true, false, cond, _||_}
@@ -15,6 +17,15 @@ use Rattle.stretch.specs.declared.Passing.{Passing}
 use Rattle.stretch.specs.declared.Keys.{Keys}
 use Rattle.stretch.specs.declared.Keys.the-variants as keys
 use Rattle.stretch.specs.Led.{passes, isEqual, keysFrom}
+use Rattle.item.specs.declared.Form.the-variants.{Bytes}
+use Rattle.item.specs.declared.Skip.the-variants as skip
+use Rattle.item.specs.declared.Counted.the-variants as counted
+use Rattle.item.specs.Item.{skipped}
+use Rattle.item.specs.CountLaws.{countedFrom}
+use Rattle.store.specs.declared.values.Run.{Run}
+use Rattle.store.specs.declared.values.Run.the-variants as run
+use Rattle.store.specs.declared.counts.Summed.{Summed}
+use Rattle.store.specs.declared.counts.Summed.the-variants as summed
 use Rattle.store.specs.declared.passing.Turn.{Turn}
 use Rattle.store.specs.declared.passing.Turn.the-variants.{On, Stuck}
 
@@ -36,6 +47,19 @@ metKey p next same = record { i = next; left = p .left - 1; lead = p .lead; goin
 unfoldable pub afterKey : Passing → ℕ → Order → Bool → Passing
 afterKey p next o leaf = cond (passes leaf o) (onKey p next) (metKey p next (isEqual o))
 
+unfoldable pub Stepped : List ℕ → Bool → Key → Passing → Turn → Type 0
+Stepped s leaf k p (On q) = Near q × (q .left + 1 ≡ p .left) × (keysOf s leaf k q ≡ keysOf s leaf k p)
+Stepped s leaf k p Stuck = keysOf s leaf k p ≡ keys.Stuck
+
 unfoldable pub Turned : List ℕ → Bool → Key → Passing → Turn → Type 0
 Turned s leaf k p (On q) = Near q × (q .left < p .left) × (keysOf s leaf k q ≡ keysOf s leaf k p)
 Turned s leaf k p Stuck = keysOf s leaf k p ≡ keys.Stuck
+
+unfoldable pub RunOf : List ℕ → ℕ → ℕ → Run → Type 0
+RunOf s n i (run.To left next) = (left < n) × (skipped s Bytes left next ≡ skipped s Bytes n i)
+RunOf s n i run.Stuck = skipped s Bytes n i ≡ skip.Stuck
+
+unfoldable pub SummedOf : List ℕ → ℕ → ℕ → ℕ → Summed → Type 0
+SummedOf s n i total (summed.To left sum next) =
+    (left < n) × (sum < 2 ^ 48) × (countedFrom s left next sum ≡ countedFrom s n i total)
+SummedOf s n i total summed.Stuck = countedFrom s n i total ≡ counted.Stuck

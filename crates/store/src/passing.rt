@@ -1,6 +1,7 @@
 // A pass over text keys with a lookup's key.
 use super::trail::beyond;
 use super::trail::met;
+use super::trail::room;
 use super::trail::trail_at;
 use super::trail::tread;
 use content::Probe;
@@ -18,7 +19,7 @@ ghost use mathlib.Core.Path.{_≡_};
 ghost use Rattle.key.specs.Key.{keyOf};
 ghost use Rattle.stretch.specs.Stretch.{Texts, Stretches};
 ghost use Rattle.stretch.specs.Led.{keysFrom};
-ghost use Rattle.store.specs.Passing.{Near, Jumped, onKey, metKey, afterKey, Turned};
+ghost use Rattle.store.specs.Passing.{Near, Jumped, onKey, metKey, afterKey, Stepped, Turned};
 
 pub enum Turn {
     On(Passing),
@@ -111,7 +112,7 @@ fn after_key(p: Passing, next: usize, o: Order, leaf: bool) -> Passing
 // The pass after one key more.
 fn one_key(image: &[u8], p: Passing, key: &[u8], leaf: bool) -> Turn
     requires { ⌜ Near p × (0 < p .left) ⌝ }
-    ensures { λ r. ⌜ Turned (now (image .entry)) leaf (keyOf Kind.Text (now (key .entry))) p r ⌝ }
+    ensures { λ r. ⌜ Stepped (now (image .entry)) leaf (keyOf Kind.Text (now (key .entry))) p r ⌝ }
 {
     let it = item::item_at(image, Form::Text, p.i);
     let Sized::At { at, len: _, next } = it else {
@@ -128,6 +129,27 @@ fn one_key(image: &[u8], p: Passing, key: &[u8], leaf: bool) -> Turn
         going: false,
         same: p.same,
     })
+}
+
+// `most` keys one by one, or up to the place `stop`.
+fn run_keys(image: &[u8], p: Passing, key: &[u8], leaf: bool, most: u32, stop: usize) -> Turn
+    requires { ⌜ Near p × (0 < most) × (most ≤ p .left) ⌝ }
+    ensures { λ r. ⌜ Turned (now (image .entry)) leaf (keyOf Kind.Text (now (key .entry))) p r ⌝ }
+{
+    let mut q = p;
+    let mut more = most;
+    while 0 < more {
+        let u = one_key(image, q, key, leaf);
+        let Turn::On(v) = u else {
+            return Turn::Stuck;
+        };
+        q = v;
+        more -= 1;
+        if stop <= q.i {
+            return Turn::On(q);
+        }
+    }
+    Turn::On(q)
 }
 
 // Passes `n` text keys from `at` on, at a leaf or an inner page.
@@ -156,12 +178,12 @@ pub(crate) fn pass_texts(
             p = q;
             t = beyond(marks, t, TEXTS, p.i);
         } else {
-            let u = one_key(image, p, key, leaf);
+            let u = run_keys(image, p, key, leaf, room(t, p.left), t.stop);
             let Turn::On(v) = u else {
                 return Keys::Stuck;
             };
+            t = tread(image, marks, t, TEXTS, p.left - v.left, v.i);
             p = v;
-            t = tread(image, marks, t, TEXTS, p.i);
         }
     }
     Keys::Past {

@@ -3,7 +3,7 @@
 use super::learn::learn;
 use stretch::Stretch;
 ghost use mathlib.Core.Path.{_≡_};
-ghost use Prim.Native.Nat.{_<_};
+ghost use Prim.Native.Nat.{_<_, _≤_};
 ghost use Rattle.stretch.specs.Marks.{stretchAt};
 ghost use Rattle.stretch.specs.Stretch.{Stretches};
 
@@ -66,37 +66,67 @@ pub(crate) fn beyond(marks: &[u64], t: Trail, form: u32, i: usize) -> Trail {
     }
 }
 
-// Whether one item more, which ends at `i`, makes the items passed a stretch.
-fn is_stretch(t: Trail, i: usize) -> bool {
-    if ITEMS <= t.run {
-        return true;
+// How many items may be passed one by one before they make a stretch, of `left`.
+pub(crate) fn room(t: Trail, left: u32) -> u32
+    requires { ⌜ 0 < left ⌝ }
+    ensures { λ r. ⌜ (0 < r) × (r ≤ left) ⌝ }
+{
+    let run = t.run;
+    if ITEMS <= run {
+        return 1;
     }
-    if ITEMS == t.run + 1 {
-        return true;
+    let more = ITEMS - run;
+    if left < more {
+        return left;
     }
-    if i < t.from {
-        return false;
-    }
-    BYTES <= i - t.from
+    more
 }
 
-// The trail after one item more, which ends at `i`; a stretch of items is remembered.
-pub(crate) fn tread(image: &[u8], marks: &mut [u64], t: Trail, form: u32, i: usize) -> Trail
+// How many items were passed since the last stretch, with `count` more.
+fn passed(t: Trail, count: u32) -> u32 {
+    let run = t.run;
+    if ITEMS <= run {
+        return ITEMS;
+    }
+    if ITEMS - run <= count {
+        return ITEMS;
+    }
+    run + count
+}
+
+// Whether items from `from` up to `i`, so many, make a stretch.
+fn is_stretch(from: usize, i: usize, count: u32) -> bool {
+    if ITEMS <= count {
+        return true;
+    }
+    if i < from {
+        return false;
+    }
+    BYTES <= i - from
+}
+
+// The trail after `count` items more, which end at `i`; a stretch of items is remembered.
+pub(crate) fn tread(
+    image: &[u8],
+    marks: &mut [u64],
+    t: Trail,
+    form: u32,
+    count: u32,
+    i: usize,
+) -> Trail
     requires { ⌜ Stretches (now image) (now marks) ⌝ }
     ensures { λ _. ⌜ Stretches (now (image .entry)) (now (marks .exit)) ⌝ }
 {
-    if ITEMS <= t.run {
-        return trail_at(marks, form, i);
-    }
-    if is_stretch(t, i) {
-        learn(image, marks, form, t.run + 1, t.from);
+    let run = passed(t, count);
+    if is_stretch(t.from, i, run) {
+        learn(image, marks, form, run, t.from);
         return trail_at(marks, form, i);
     }
     let u = Trail {
         index: t.index,
         stop: t.stop,
         from: t.from,
-        run: t.run + 1,
+        run,
     };
     if u.stop < i {
         return further(marks, u, form);

@@ -3,10 +3,11 @@ use mathlib.Core.Path.{_≡_, refl, sym, _∙_}
 use native.Mathlib.Omega.{arith}
 use lib.ListN.{length}
 use Rattle.item.specs.Item.{counted}
-use Rattle.item.specs.CountLaws.{countedFrom, counted-from, counted-none, counted-more, counted-over, counted-bad}
+use Rattle.item.specs.CountLaws.{countedFrom, counted-from, counted-none}
 use Rattle.stretch.specs.Stretch.{Stretches}
 use Rattle.stretch.specs.MarksLaws.{found-counts}
 use Rattle.stretch.specs.JumpLaws.{counted-jump}
+use Rattle.store.specs.Passing.{SummedOf}
 use borrow.Author.Needs.{needs}
 use Rattle.store.proofs.counts.pass_counts.Statement.{statement}
 use Rattle.store.proofs.counts.pass_counts.Tie as tie
@@ -35,26 +36,32 @@ loop-again c =
     let f = c .before .before .before .before .before .can-pass .ensures (c .before .before .before .before .if1 .taken) in
     (l .inv .0, sym (counted-jump _ (l .left) (l .i) (l .sum) (found-counts (l .inv .0) _ _ (c .before .before .before .before .before .before .met .ensures (f .0)) (f .0)) (f .1) (f .2)) ∙ l .inv .1, f .2, l .inv .3)
 
-returns : tie.Need-returns Inv-loop μ-loop
-returns c =
-    let l = c .before .before .before .before .before .before .before .before .loop in
-    (l .inv .0, sym (counted-bad _ (l .left) (l .i) (l .sum) (omega arith) (sym (c .before .before .read-var .ensures) ∙ c .enum-told .given .1)) ∙ l .inv .1)
+run-counts-requires : tie.Need-run-counts-requires Inv-loop μ-loop
+run-counts-requires c κs = (c .counts-room .ensures .0, c .counts-room .ensures .1, c .before .before .before .before .before .before .loop .inv .2)
 
-returns-2 : tie.Need-returns-2 Inv-loop μ-loop
-returns-2 c =
-    let l = c .before .before .before .before .before .before .before .before .before .before .loop in
-    (l .inv .0, sym (counted-over _ (l .left) (l .i) (l .sum) (omega arith) (sym (c .before .before .before .before .read-var .ensures) ∙ c .before .before .v .given .1) (omega arith)) ∙ l .inv .1)
+returns : tie.Need-returns Inv-loop μ-loop
+unfolding SummedOf
+returns c = let e = rw (c .enum-told .given .1) at (c .before .before .run-counts .ensures) in (c .before .before .before .before .before .before .before .before .before .loop .inv .0, sym e ∙ c .before .before .before .before .before .before .before .before .before .loop .inv .1)
+
+sub-tread : tie.Need-sub-tread Inv-loop μ-loop
+unfolding SummedOf
+sub-tread c = let e = rw (c .before .before .r .given .1) at (c .before .before .before .before .run-counts .ensures) in omega (arith, e .0)
 
 tread-requires : tie.Need-tread-requires Inv-loop μ-loop
 tread-requires c κs = c .before .before .before .before .before .before .before .before .before .before .before .loop .inv .0
 
-loop-again-2 : tie.Need-loop-again-2 Inv-loop μ-loop
-loop-again-2 c =
-    let l = c .before .before .before .before .before .before .before .before .before .before .before .before .before .before .loop in
-    (c .before .before .tread .ensures, sym (counted-more _ (l .left) (l .i) (l .sum) (omega arith) (sym (c .before .before .before .before .before .before .before .before .read-var .ensures) ∙ c .before .before .before .before .before .before .v .given .1) (omega arith)) ∙ l .inv .1, omega arith, search needs)
+loop-less-2 : tie.Need-loop-less-2 Inv-loop μ-loop
+unfolding SummedOf
+loop-less-2 c = let e = rw (c .before .before .before .before .before .r .given .1) at (c .before .before .before .before .before .before .before .run-counts .ensures) in e .0
 
-returns-3 : tie.Need-returns-3 Inv-loop μ-loop
-returns-3 c =
+loop-again-2 : tie.Need-loop-again-2 Inv-loop μ-loop
+unfolding SummedOf
+loop-again-2 c =
+    let e = rw (c .before .before .before .before .before .r .given .1) at (c .before .before .before .before .before .before .before .run-counts .ensures) in
+    (c .before .before .tread .ensures, e .2 ∙ c .before .before .before .before .before .before .before .before .before .before .before .before .before .before .loop .inv .1, e .1, c .before .before .tread .kept .1 .0 ∙ c .before .before .before .before .before .before .before .before .before .before .before .before .before .before .loop .inv .3)
+
+returns-2 : tie.Need-returns-2 Inv-loop μ-loop
+returns-2 c =
     let l = c .before .loop in
     (l .inv .0, sym (counted-none _ (l .left) (l .i) (l .sum) (omega arith)) ∙ l .inv .1)
 
@@ -75,17 +82,15 @@ pass-counts-spec =
     loop-less
     loop-again
     (λ c κs. search needs)
+    run-counts-requires
     (λ c. search needs)
     (λ c. search needs)
     (λ c. search needs)
     returns
-    (λ c. search needs)
-    (λ c. search needs)
-    returns-2
-    (λ c. search needs)
+    sub-tread
     (λ c. search needs)
     tread-requires
-    (λ c. search needs)
+    loop-less-2
     loop-again-2
     (λ c. search needs)
-    returns-3)
+    returns-2)

@@ -29,23 +29,27 @@ loop-again : tie.Need-loop-again Inv-loop μ-loop
 unfolding Jumped
 loop-again c = let j = c .before .before .before .before .before .jump .ensures in (c .before .before .before .before .before .before .before .before .before .before .loop .inv .0, j .0, j .2 ∙ c .before .before .before .before .before .before .before .before .before .before .loop .inv .2, c .before .before .before .before .before .before .before .before .before .before .loop .inv .3)
 
-one-key-requires : tie.Need-one-key-requires Inv-loop μ-loop
-one-key-requires c κs = (c .before .before .before .before .before .before .before .before .loop .inv .1, omega arith)
+run-keys-requires : tie.Need-run-keys-requires Inv-loop μ-loop
+run-keys-requires c κs = (c .before .before .before .before .before .before .before .before .before .loop .inv .1, c .room .ensures .0, c .room .ensures .1)
 
 returns : tie.Need-returns Inv-loop μ-loop
 unfolding Turned
-returns c = let e = rw (c .enum-told .given .1) at (c .before .before .one-key .ensures) in (c .before .before .before .before .before .before .before .before .before .before .before .loop .inv .0, sym e ∙ c .before .before .before .before .before .before .before .before .before .before .before .loop .inv .2)
+returns c = let e = rw (c .enum-told .given .1) at (c .before .before .run-keys .ensures) in (c .before .before .before .before .before .before .before .before .before .before .before .before .loop .inv .0, sym e ∙ c .before .before .before .before .before .before .before .before .before .before .before .before .loop .inv .2)
+
+sub-tread : tie.Need-sub-tread Inv-loop μ-loop
+unfolding Turned
+sub-tread c = let e = rw (c .before .before .before .before .u .given .1) at (c .before .before .before .before .before .before .run-keys .ensures) in omega (arith, e .1)
 
 tread-requires : tie.Need-tread-requires Inv-loop μ-loop
-tread-requires c κs = c .before .before .before .before .before .before .before .before .before .before .before .before .before .loop .inv .0
+tread-requires c κs = c .before .before .before .before .before .before .before .before .before .before .before .before .before .before .before .before .loop .inv .0
 
 loop-less-2 : tie.Need-loop-less-2 Inv-loop μ-loop
 unfolding Turned
-loop-less-2 c = let e = rw (c .before .before .before .before .before .u .given .1) at (c .before .before .before .before .before .before .before .one-key .ensures) in e .1
+loop-less-2 c = let e = rw (c .before .before .before .before .before .before .before .u .given .1) at (c .before .before .before .before .before .before .before .before .before .run-keys .ensures) in e .1
 
 loop-again-2 : tie.Need-loop-again-2 Inv-loop μ-loop
 unfolding Turned
-loop-again-2 c = let e = rw (c .before .before .before .before .before .u .given .1) at (c .before .before .before .before .before .before .before .one-key .ensures) in (c .before .before .tread .ensures, e .0, e .2 ∙ c .before .before .before .before .before .before .before .before .before .before .before .before .before .before .before .before .loop .inv .2, c .before .before .tread .kept .1 .0 ∙ c .before .before .before .before .before .before .before .before .before .before .before .before .before .before .before .before .loop .inv .3)
+loop-again-2 c = let e = rw (c .before .before .before .before .before .before .before .u .given .1) at (c .before .before .before .before .before .before .before .before .before .run-keys .ensures) in (c .before .before .tread .ensures, e .0, e .2 ∙ c .before .before .before .before .before .before .before .before .before .before .before .before .before .before .before .before .before .before .before .loop .inv .2, c .before .before .tread .kept .1 .0 ∙ c .before .before .before .before .before .before .before .before .before .before .before .before .before .before .before .before .before .before .before .loop .inv .3)
 
 returns-2 : tie.Need-returns-2 Inv-loop μ-loop
 returns-2 c = let p = c .before .before .loop .p in (c .before .before .loop .inv .0, sym (keysFrom-none _ _ _ (p .left) (p .i) (p .lead) (p .same) (p .going) (omega arith)) ∙ c .before .before .loop .inv .2)
@@ -63,11 +67,13 @@ pass-texts-spec =
     (λ c κs. search needs)
     (λ c. search needs)
     loop-again
-    one-key-requires
+    (λ c κs. search needs)
+    run-keys-requires
     (λ c. search needs)
     (λ c. search needs)
     (λ c. search needs)
     returns
+    sub-tread
     tread-requires
     loop-less-2
     loop-again-2

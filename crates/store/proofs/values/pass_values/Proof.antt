@@ -1,13 +1,14 @@
-use borrow.Author.Tests.{leb-true}
 use mathlib.Core.Path.{_≡_, refl, sym, _∙_}
 use native.Mathlib.Omega.{arith}
 use lib.ListN.{length}
+use borrow.Author.Tests.{leb-true}
 use Rattle.item.specs.declared.Form.the-variants.{Bytes}
 use Rattle.item.specs.Item.{skipped}
-use Rattle.item.specs.ItemLaws.{skipped-none, skipped-more, skipped-bad}
+use Rattle.item.specs.ItemLaws.{skipped-none}
 use Rattle.stretch.specs.Stretch.{Stretches}
 use Rattle.stretch.specs.MarksLaws.{found-values}
 use Rattle.stretch.specs.JumpLaws.{skipped-jump}
+use Rattle.store.specs.Passing.{RunOf}
 use borrow.Author.Needs.{needs}
 use Rattle.store.proofs.values.pass_values.Statement.{statement}
 use Rattle.store.proofs.values.pass_values.Tie as tie
@@ -26,18 +27,29 @@ loop-again c =
     let l = c .before .before .before .before .before .before .before .before .before .before .loop in
     (l .inv .0, sym (skipped-jump _ _ (l .left) (l .i) (found-values (l .inv .0) _ _ (c .before .before .before .before .before .before .before .met .ensures (c .before .before .before .before .before .if1 .taken)) (c .before .before .before .before .before .if1 .taken)) (leb-true _ _ (c .before .before .before .if2 .taken))) ∙ l .inv .1, l .inv .2)
 
+run-values-requires : tie.Need-run-values-requires Inv-loop μ-loop
+run-values-requires c κs = (c .room .ensures .0, c .room .ensures .1)
+
 returns : tie.Need-returns Inv-loop μ-loop
-returns c =
-    let l = c .before .before .before .before .before .before .before .before .loop in
-    (l .inv .0, sym (skipped-bad _ _ (l .left) (l .i) (omega arith) (sym (c .before .before .item-at .ensures) ∙ c .enum-told .given .1)) ∙ l .inv .1)
+unfolding RunOf
+returns c = let e = rw (c .enum-told .given .1) at (c .before .before .run-values .ensures) in (c .before .before .before .before .before .before .before .before .before .loop .inv .0, sym e ∙ c .before .before .before .before .before .before .before .before .before .loop .inv .1)
+
+sub-tread : tie.Need-sub-tread Inv-loop μ-loop
+unfolding RunOf
+sub-tread c = let e = rw (c .before .before .r .given .1) at (c .before .before .before .before .run-values .ensures) in omega (arith, e .0)
 
 tread-requires : tie.Need-tread-requires Inv-loop μ-loop
-tread-requires c κs = c .before .before .before .before .before .before .before .before .before .before .loop .inv .0
+tread-requires c κs = c .before .before .before .before .before .before .before .before .before .before .before .loop .inv .0
+
+loop-less-2 : tie.Need-loop-less-2 Inv-loop μ-loop
+unfolding RunOf
+loop-less-2 c = let e = rw (c .before .before .before .before .before .r .given .1) at (c .before .before .before .before .before .before .before .run-values .ensures) in e .0
 
 loop-again-2 : tie.Need-loop-again-2 Inv-loop μ-loop
+unfolding RunOf
 loop-again-2 c =
-    let l = c .before .before .before .before .before .before .before .before .before .before .before .before .before .loop in
-    (c .before .before .tread .ensures, sym (skipped-more _ _ (l .left) (l .i) (omega arith) (sym (c .before .before .before .before .before .before .before .item-at .ensures) ∙ c .before .before .before .before .before .it .given .1)) ∙ l .inv .1, search needs)
+    let e = rw (c .before .before .before .before .before .r .given .1) at (c .before .before .before .before .before .before .before .run-values .ensures) in
+    (c .before .before .tread .ensures, e .1 ∙ c .before .before .before .before .before .before .before .before .before .before .before .before .before .before .loop .inv .1, c .before .before .tread .kept .1 .0 ∙ c .before .before .before .before .before .before .before .before .before .before .before .before .before .before .loop .inv .2)
 
 returns-2 : tie.Need-returns-2 Inv-loop μ-loop
 returns-2 c =
@@ -58,13 +70,14 @@ pass-values-spec =
     (λ c. search needs)
     loop-again
     (λ c κs. search needs)
+    run-values-requires
     (λ c. search needs)
     (λ c. search needs)
     (λ c. search needs)
     returns
-    (λ c. search needs)
+    sub-tread
     tread-requires
-    (λ c. search needs)
+    loop-less-2
     loop-again-2
     (λ c. search needs)
     returns-2)
