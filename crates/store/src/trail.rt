@@ -105,7 +105,8 @@ fn is_stretch(from: usize, i: usize, count: u32) -> bool {
     BYTES <= i - from
 }
 
-// The trail after `count` items more, which end at `i`; a stretch of items is remembered.
+// The trail after `count` items more, which end at `i`. Where no stretch begins there and they make one,
+// it is remembered.
 pub(crate) fn tread(
     image: &[u8],
     marks: &mut [u64],
@@ -117,6 +118,14 @@ pub(crate) fn tread(
     requires { ⌜ Stretches (now image) (now marks) ⌝ }
     ensures { λ _. ⌜ Stretches (now (image .entry)) (now (marks .exit)) ⌝ }
 {
+    if t.stop == i {
+        return Trail {
+            index: t.index,
+            stop: i,
+            from: i,
+            run: 0,
+        };
+    }
     let run = passed(t, count);
     if is_stretch(t.from, i, run) {
         learn(image, marks, form, run, t.from);
