@@ -4,7 +4,7 @@
 --   Near p                   its numbers stay below 2^32
 --   Jumped s leaf k p q      the pass q comes to the answer of p, and has no more keys to go
 --   afterKey p next o leaf   the pass after a key that compares so with the lookup's
---   Stepped s leaf k p t     what one key more says of the answer
+--   TurnedOnce s leaf k p t  what one key more says of the answer
 --   Turned s leaf k p t      what some keys more say of it
 --   RunOf, SummedOf          the same of values, and of recorded counts
 use Prim.Native.Nat.{ℕ, _+_, _-_, _^_, _<_, _≤_}
@@ -47,9 +47,9 @@ metKey p next same = record { i = next; left = p .left - 1; lead = p .lead; goin
 unfoldable pub afterKey : Passing → ℕ → Order → Bool → Passing
 afterKey p next o leaf = cond (passes leaf o) (onKey p next) (metKey p next (isEqual o))
 
-unfoldable pub Stepped : List ℕ → Bool → Key → Passing → Turn → Type 0
-Stepped s leaf k p (On q) = Near q × (q .left + 1 ≡ p .left) × (keysOf s leaf k q ≡ keysOf s leaf k p)
-Stepped s leaf k p Stuck = keysOf s leaf k p ≡ keys.Stuck
+unfoldable pub TurnedOnce : List ℕ → Bool → Key → Passing → Turn → Type 0
+TurnedOnce s leaf k p (On q) = Near q × (q .left + 1 ≡ p .left) × (keysOf s leaf k q ≡ keysOf s leaf k p)
+TurnedOnce s leaf k p Stuck = keysOf s leaf k p ≡ keys.Stuck
 
 unfoldable pub Turned : List ℕ → Bool → Key → Passing → Turn → Type 0
 Turned s leaf k p (On q) = Near q × (q .left < p .left) × (keysOf s leaf k q ≡ keysOf s leaf k p)

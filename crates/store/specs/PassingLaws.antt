@@ -19,7 +19,7 @@ use Rattle.stretch.specs.Led.{passes, isEqual}
 use Rattle.stretch.specs.Stretch.{Texts}
 use Rattle.stretch.specs.LedLaws.{keysFrom-stuck, keysFrom-shut, keysFrom-on, keysFrom-met, keysFrom-jump, keysFrom-jump-shut}
 use Rattle.store.specs.declared.passing.Turn.the-variants.{On, Stuck}
-use Rattle.store.specs.Passing.{keysOf, Near, Jumped, onKey, metKey, afterKey, Stepped}
+use Rattle.store.specs.Passing.{keysOf, Near, Jumped, onKey, metKey, afterKey, TurnedOnce}
 
 module _ (s : List ℕ) (leaf : Bool) (k : Key) (p : Passing) (near : Near p) where
   pub jumped-not : Jumped s leaf k p p
@@ -49,26 +49,26 @@ module _ (s : List ℕ) (leaf : Bool) (k : Key) (p : Passing) (near : Near p) wh
 
   -- ## A key
   module _ (some-left : 0 < p .left) where
-    pub stepped-stuck : itemAt s Text (p .i) ≡ Bad → Stepped s leaf k p Stuck
-    unfolding Stepped
-    stepped-stuck e = keysFrom-stuck s leaf k (p .left) (p .i) (p .lead) (p .same) (p .going) some-left e
+    pub once-stuck : itemAt s Text (p .i) ≡ Bad → TurnedOnce s leaf k p Stuck
+    unfolding TurnedOnce
+    once-stuck e = keysFrom-stuck s leaf k (p .left) (p .i) (p .lead) (p .same) (p .going) some-left e
 
     module _ {at len next : ℕ} (e : itemAt s Text (p .i) ≡ At at len next) where
-      pub stepped-shut : p .going ≡ false
-          → Stepped s leaf k p (On (record { i = next; left = p .left - 1; lead = p .lead; going = false; same = p .same }))
-      unfolding Stepped
-      stepped-shut shut =
+      pub once-shut : p .going ≡ false
+          → TurnedOnce s leaf k p (On (record { i = next; left = p .left - 1; lead = p .lead; going = false; same = p .same }))
+      unfolding TurnedOnce
+      once-shut shut =
           (omega arith, omega arith, rw shut (sym (keysFrom-shut s leaf k (p .left) (p .i) (p .lead) (p .same) some-left e)))
 
-      pub stepped-after : p .going ≡ true → (o : Order) → o ≡ compareKeys (keyOf kind.Text (take (next - at) (drop at s))) k
-          → (q : Passing) → q ≡ afterKey p next o leaf → Stepped s leaf k p (On q)
-      unfolding Stepped afterKey
-      stepped-after going o is q eq = rw (eq, is) (go (passes leaf by) refl)
+      pub once-after : p .going ≡ true → (o : Order) → o ≡ compareKeys (keyOf kind.Text (take (next - at) (drop at s))) k
+          → (q : Passing) → q ≡ afterKey p next o leaf → TurnedOnce s leaf k p (On q)
+      unfolding TurnedOnce afterKey
+      once-after going o is q eq = rw (eq, is) (go (passes leaf by) refl)
         where
           by : Order
           by = compareKeys (keyOf kind.Text (take (next - at) (drop at s))) k
 
-          go : (t : Bool) → passes leaf by ≡ t → Stepped s leaf k p (On (cond t (onKey p next) (metKey p next (isEqual by))))
+          go : (t : Bool) → passes leaf by ≡ t → TurnedOnce s leaf k p (On (cond t (onKey p next) (metKey p next (isEqual by))))
           go true f =
               (omega arith, omega arith, rw going (sym (keysFrom-on s leaf k (p .left) (p .i) (p .lead) (p .same) some-left e f)))
           go false f =

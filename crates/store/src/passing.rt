@@ -19,7 +19,7 @@ ghost use mathlib.Core.Path.{_≡_};
 ghost use Rattle.key.specs.Key.{keyOf};
 ghost use Rattle.stretch.specs.Stretch.{Texts, Stretches};
 ghost use Rattle.stretch.specs.Led.{keysFrom};
-ghost use Rattle.store.specs.Passing.{Near, Jumped, onKey, metKey, afterKey, Stepped, Turned};
+ghost use Rattle.store.specs.Passing.{Near, Jumped, onKey, metKey, afterKey, TurnedOnce, Turned};
 
 pub enum Turn {
     On(Passing),
@@ -112,7 +112,7 @@ fn after_key(p: Passing, next: usize, o: Order, leaf: bool) -> Passing
 // The pass after one key more.
 fn one_key(image: &[u8], p: Passing, key: &[u8], leaf: bool) -> Turn
     requires { ⌜ Near p × (0 < p .left) ⌝ }
-    ensures { λ r. ⌜ Stepped (now (image .entry)) leaf (keyOf Kind.Text (now (key .entry))) p r ⌝ }
+    ensures { λ r. ⌜ TurnedOnce (now (image .entry)) leaf (keyOf Kind.Text (now (key .entry))) p r ⌝ }
 {
     let it = item::item_at(image, Form::Text, p.i);
     let Sized::At { at, len: _, next } = it else {

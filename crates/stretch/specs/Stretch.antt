@@ -4,8 +4,8 @@
 --   Values s i m j      m values from place i on end at j
 --   Counts s i m j t    m recorded counts from place i on end at j, and their sum is t
 --   keyHere s i         the text key at place i
---   countIn, spanIn, moreIn    what the words of a stretch hold: how many items, how many bytes, and the place of the greatest key or
---                       the sum; it is remembered by its form and its first place, as a chunk is by its id
+--   countIn, moreIn     what the words of a stretch hold: how many items, and the place of the greatest key or the sum; it is
+--                       remembered by its form and its first place (formIn, fromIn), as a chunk is by its id
 --   Stretches s ws      each stretch that the words hold is right
 use Prim.Native.Nat.{ℕ, _+_, _*_, _/_, _%_}
 use mathlib.Core.Path.{_≡_}

@@ -3,7 +3,7 @@ use mathlib.Core.Path.{_≡_, refl, sym, _∙_}
 use native.Mathlib.Omega.{arith}
 use Rattle.key.specs.declared.Kind.the-variants.{Text}
 use Rattle.key.specs.Key.{keyOf}
-use Rattle.store.specs.Passing.{keysOf, Near, Stepped, Turned}
+use Rattle.store.specs.Passing.{keysOf, Near, TurnedOnce, Turned}
 use borrow.Author.Needs.{needs}
 use Rattle.store.proofs.passing.run_keys.Statement.{statement}
 use Rattle.store.proofs.passing.run_keys.Tie as tie
@@ -21,15 +21,15 @@ one-key-requires : tie.Need-one-key-requires Inv-loop μ-loop
 one-key-requires c κs = (c .before .loop .inv .0, omega arith)
 
 returns : tie.Need-returns Inv-loop μ-loop
-unfolding Stepped Turned
+unfolding TurnedOnce Turned
 returns c = let e = rw (c .enum-told .given .1) at (c .before .before .one-key .ensures) in sym (c .before .before .before .before .loop .inv .4) ∙ e
 
 returns-2 : tie.Need-returns-2 Inv-loop μ-loop
-unfolding Stepped Turned
+unfolding TurnedOnce Turned
 returns-2 c = let e = rw (c .before .before .before .u .given .1) at (c .before .before .before .before .before .one-key .ensures) in (e .0, omega (arith, e .1), e .2 ∙ c .before .before .before .before .before .before .before .loop .inv .4)
 
 loop-again : tie.Need-loop-again Inv-loop μ-loop
-unfolding Stepped
+unfolding TurnedOnce
 loop-again c = let e = rw (c .before .before .before .u .given .1) at (c .before .before .before .before .before .one-key .ensures) in (e .0, omega (arith, e .1), omega (arith, e .1), omega arith, e .2 ∙ c .before .before .before .before .before .before .before .loop .inv .4)
 
 returns-3 : tie.Need-returns-3 Inv-loop μ-loop
