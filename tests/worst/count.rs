@@ -6,7 +6,7 @@
 use std::collections::{HashMap, HashSet};
 use std::rc::Rc;
 
-use super::runs;
+use super::runs::{self, Runs};
 use super::ways::{first_equal, first_greater, Ways};
 use crate::model::bytes::digits;
 use crate::model::chunk::{stands_at, Chunk};
@@ -39,6 +39,7 @@ pub struct Reader<'a> {
     located: HashMap<u64, (Chunk, u32)>,
     /// What lookups need of the metadata's pages.
     kept: HashMap<u64, Rc<Ways<'a>>>,
+    runs: Runs,
 }
 
 impl<'a> Reader<'a> {
@@ -46,7 +47,7 @@ impl<'a> Reader<'a> {
         let image = Image::new(lent)?;
         let newest = newest(&image)?;
         let (located, kept) = (HashMap::from([(newest.id, (newest, 0))]), HashMap::new());
-        Ok(Reader { image, newest, work: Work::default(), located, kept })
+        Ok(Reader { image, newest, work: Work::default(), located, kept, runs: Runs::of(lent) })
     }
 
     pub fn metadata(&self) -> Map {
@@ -97,11 +98,12 @@ impl<'a> Reader<'a> {
     fn judged(&mut self, map: &Map, chunk: &Chunk, position: &Position) -> Outcome<Ways<'a>> {
         let by_runs = map.id == 0 && position.kind == 1;
         if by_runs && self.kept.len() >= BOTH {
-            return runs::inner(&self.image, chunk, position);
+            return runs::inner(&self.image, &self.runs, chunk, position);
         }
         let ways = read_in(&self.image, chunk, map, position).map(|page| Ways::of(&page));
         if by_runs {
-            assert_eq!(runs::inner(&self.image, chunk, position), ways, "{position:?} by runs");
+            let again = runs::inner(&self.image, &self.runs, chunk, position);
+            assert_eq!(again, ways, "{position:?} by runs");
         }
         ways
     }

@@ -11,13 +11,16 @@
 //! | `deep`     | trees of depth 16; inner pages with one child many times |
 //! | `many`     | as many pages as fit |
 //! | `overlap`  | pages that share their bytes |
-//! | `each`     | the same, with pages of its own on the way to each chunk |
+//! | `own`      | pages of its own on the way to each chunk, that share their bytes |
+//! | `each`     | such pages that are nearly as long as the image |
+//! | `aligned`  | such pages with text keys that never meet |
 //! | `count`, `ask` | a reader that counts what a call needs |
 //! | `ways`, `runs` | what a lookup needs of a page, and a fast way to judge wide ones |
 //! | `asked`    | a call of the exports in a process of its own |
 //! | `table`    | the table of `tests/run --worst` |
 //! | `short`    | small ones in the short run |
 
+mod aligned;
 pub mod ask;
 #[cfg(archive)]
 pub mod asked;
@@ -30,6 +33,7 @@ mod many;
 mod metadata;
 mod nested;
 mod overlap;
+mod own;
 mod runs;
 #[cfg(archive)]
 pub mod short;
@@ -101,7 +105,7 @@ const fn longest(name: &'static str, maker: Maker) -> Named {
     Named { sizes: &[1, 4, 16, 40], short: 1024, ..named(name, maker) }
 }
 
-pub const ALL: [Named; 19] = [
+pub const ALL: [Named; 20] = [
     named("nested", nested::nested),
     slow("nested-lines", nested::long_lines),
     slow("nested-values", nested::long_values),
@@ -121,6 +125,7 @@ pub const ALL: [Named; 19] = [
     slowest("overlap", overlap::paths),
     growing("overlap-chunks", overlap::chunks),
     growing_most("overlap-each", each::each),
+    growing_most("overlap-aligned", aligned::aligned),
 ];
 
 impl Worst {

@@ -1,6 +1,6 @@
-//! Inner pages of the metadata, judged by runs: counts of one byte and empty keys, which are nearly
-//! all of a wide page, are taken together. The model would take hours for as many wide pages as the
-//! worst images have.
+//! Inner pages of the metadata, judged by runs: counts of one byte, and keys that are all the same
+//! byte, which are nearly all of a wide page, are taken together. The model would take hours for as
+//! many wide pages as the worst images have.
 
 use super::ways::{push_risen, Ways};
 use crate::model::bytes::{big_endian, part, variable};
@@ -17,8 +17,34 @@ const POSITION: u64 = 8;
 /// So many bytes are looked at together.
 const STRIDE: usize = 64;
 
+/// The runs of equal bytes in an image, each from a place to another, but for the short ones.
+pub struct Runs(Vec<(u64, u64)>);
+
+impl Runs {
+    pub fn of(image: &[u8]) -> Runs {
+        let mut end = 0;
+        let runs = image.chunk_by(|byte, next| byte == next).map(|run| {
+            let at = end;
+            end += run.len() as u64;
+            (at, end)
+        });
+        Runs(runs.filter(|(at, end)| end - at >= STRIDE as u64).collect())
+    }
+
+    /// How many bytes from a place on are known to be equal.
+    fn from(&self, place: u64) -> u64 {
+        let i = self.0.partition_point(|&(_, end)| end <= place);
+        self.0.get(i).filter(|(at, _)| *at <= place).map_or(0, |(_, end)| end - place)
+    }
+}
+
 /// What a lookup needs of the inner page at a position in a chunk that is located.
-pub fn inner<'a>(image: &Image<'a>, chunk: &Chunk, position: &Position) -> Outcome<Ways<'a>> {
+pub fn inner<'a>(
+    image: &Image<'a>,
+    runs: &Runs,
+    chunk: &Chunk,
+    position: &Position,
+) -> Outcome<Ways<'a>> {
     let span = place(image, chunk, position)?;
     let mut fields = Fields { bytes: image.bytes_of(span), at: FIELDS };
     let check = check_value(position.chunk, position.offset, span.length);
@@ -34,7 +60,7 @@ pub fn inner<'a>(image: &Image<'a>, chunk: &Chunk, position: &Position) -> Outco
     }
     let positions = fields.part(POSITION * (n + 1))?;
     fields.counts(n + 1)?;
-    let keys = fields.keys(n)?;
+    let keys = fields.keys(n, |at| runs.from(span.at + at))?;
     let child = |i| big_endian(positions, POSITION * i, POSITION).ok_or(CONTENTS);
     let ways: Outcome<_> = keys.into_iter().map(|(key, i)| Ok((key, child(i)?))).collect();
     let whole = fields.at == fields.bytes.len() as u64;
@@ -60,11 +86,11 @@ impl<'a> Fields<'a> {
         Ok(bytes)
     }
 
-    /// As many of the next bytes as have none of these bits set, in whole strides.
-    fn run(&mut self, most: u64, bits: u8) -> &'a [u8] {
+    /// As many of the next bytes as have no high bit set, in whole strides.
+    fn run(&mut self, most: u64) -> &'a [u8] {
         let rest = &self.bytes[self.at as usize..];
         let rest = &rest[..rest.len().min(most as usize)];
-        let clear = |stride: &&[u8]| stride.iter().fold(0, |all, byte| all | byte) & bits == 0;
+        let clear = |stride: &&[u8]| stride.iter().fold(0, |all, byte| all | byte) & 0x80 == 0;
         let run = &rest[..rest.chunks_exact(STRIDE).take_while(clear).count() * STRIDE];
         self.at += run.len() as u64;
         run
@@ -73,7 +99,7 @@ impl<'a> Fields<'a> {
     fn counts(&mut self, n: u64) -> Outcome<()> {
         let (mut left, mut sum) = (n, 0);
         while left > 0 {
-            let run = self.run(left, 0x80);
+            let run = self.run(left);
             sum += run.iter().map(|&byte| u64::from(byte)).sum::<u64>();
             left -= run.len() as u64;
             let more = left.min(STRIDE as u64);
@@ -86,23 +112,26 @@ impl<'a> Fields<'a> {
         (sum < COUNTS).then_some(()).ok_or(CONTENTS)
     }
 
-    /// The keys that are greater than all before them, each with its number.
-    fn keys(&mut self, n: u64) -> Outcome<Vec<(Key<'a>, u64)>> {
+    /// The keys that are greater than all before them, each with its number; by how many bytes from
+    /// a place on are equal.
+    fn keys(&mut self, n: u64, equal: impl Fn(u64) -> u64) -> Outcome<Vec<(Key<'a>, u64)>> {
         let (mut keys, mut i) = (Vec::new(), 0);
         while i < n {
-            let run = self.run(n - i, 0xff).len() as u64;
-            if run > 0 {
-                push_risen(&mut keys, Key::Text(&[]), || i);
-            }
-            i += run;
-            let end = n.min(i + STRIDE as u64);
-            while i < end {
-                let span = key_at(Kind::Text, self.bytes, self.at).ok_or(CONTENTS)?;
-                self.at = span.at;
-                push_risen(&mut keys, Key::Text(self.part(span.length)?), || i);
-                i += 1;
-            }
+            let at = self.at;
+            push_risen(&mut keys, self.key()?, || i);
+            // Where the key is the whole of equal bytes, the same key comes again and again.
+            let length = self.at - at;
+            let left = (self.bytes.len() as u64 - at).min(equal(at));
+            let same = (left / length).clamp(1, n - i);
+            self.at = at + same * length;
+            i += same;
         }
         Ok(keys)
+    }
+
+    fn key(&mut self) -> Outcome<Key<'a>> {
+        let span = key_at(Kind::Text, self.bytes, self.at).ok_or(CONTENTS)?;
+        self.at = span.at;
+        self.part(span.length).map(Key::Text)
     }
 }
