@@ -14,6 +14,7 @@
 //! | `own`      | pages of its own on the way to each chunk, that share their bytes |
 //! | `each`     | such pages that are nearly as long as the image |
 //! | `aligned`  | such pages with text keys that never meet |
+//! | `spread`   | such pages whose keys lie all over the upper half of the image |
 //! | `count`, `ask` | a reader that counts what a call needs |
 //! | `ways`, `runs` | what a lookup needs of a page, and a fast way to judge wide ones |
 //! | `asked`    | a call of the exports in a process of its own |
@@ -37,6 +38,7 @@ mod own;
 mod runs;
 #[cfg(archive)]
 pub mod short;
+mod spread;
 #[cfg(archive)]
 pub mod table;
 mod ways;
@@ -105,7 +107,7 @@ const fn longest(name: &'static str, maker: Maker) -> Named {
     Named { sizes: &[1, 4, 16, 40], short: 1024, ..named(name, maker) }
 }
 
-pub const ALL: [Named; 20] = [
+pub const ALL: [Named; 21] = [
     named("nested", nested::nested),
     slow("nested-lines", nested::long_lines),
     slow("nested-values", nested::long_values),
@@ -126,6 +128,7 @@ pub const ALL: [Named; 20] = [
     growing("overlap-chunks", overlap::chunks),
     growing_most("overlap-each", each::each),
     growing_most("overlap-aligned", aligned::aligned),
+    growing_most("overlap-spread", spread::spread),
 ];
 
 impl Worst {
