@@ -15,10 +15,16 @@ use crate::model::refusal::{Outcome, CHECK_VALUE, CONTENTS, NOT_DUE};
 const FIELDS: u64 = 6;
 const POSITION: u64 = 8;
 /// So many bytes are looked at together.
-const STRIDE: usize = 64;
+const STRIDE: u64 = 64;
 
-/// The runs of equal bytes in an image, each from a place to another, but for the short ones.
-pub struct Runs(Vec<(u64, u64)>);
+/// What is known of an image's bytes, so that no page goes through all of its own.
+pub struct Runs {
+    /// The runs of equal bytes, each from a place to another, but for the short ones.
+    equal: Vec<(u64, u64)>,
+    /// For each stride, and at the image's end: the sum of the bytes before it, and how many strides
+    /// from it on have no high bit set.
+    clear: Vec<(u64, u64)>,
+}
 
 impl Runs {
     pub fn of(image: &[u8]) -> Runs {
@@ -28,14 +34,43 @@ impl Runs {
             end += run.len() as u64;
             (at, end)
         });
-        Runs(runs.filter(|(at, end)| end - at >= STRIDE as u64).collect())
+        let equal = runs.filter(|(at, end)| end - at >= STRIDE).collect();
+        Runs { equal, clear: clear_strides(image) }
     }
 
     /// How many bytes from a place on are known to be equal.
-    fn from(&self, place: u64) -> u64 {
-        let i = self.0.partition_point(|&(_, end)| end <= place);
-        self.0.get(i).filter(|(at, _)| *at <= place).map_or(0, |(_, end)| end - place)
+    fn equal_from(&self, place: u64) -> u64 {
+        let i = self.equal.partition_point(|&(_, end)| end <= place);
+        self.equal.get(i).filter(|(at, _)| *at <= place).map_or(0, |(_, end)| end - place)
     }
+
+    /// How many bytes from a place on, but at most so many, are strides without a high bit set; and
+    /// the sum of those bytes.
+    fn clear_from(&self, place: u64, most: u64) -> (u64, u64) {
+        if place % STRIDE != 0 {
+            return (0, 0);
+        }
+        let first = place / STRIDE;
+        let (before, strides) = self.clear[first as usize];
+        let strides = strides.min(most / STRIDE);
+        (strides * STRIDE, self.clear[(first + strides) as usize].0 - before)
+    }
+}
+
+fn clear_strides(image: &[u8]) -> Vec<(u64, u64)> {
+    let strides: Vec<&[u8]> = image.chunks_exact(STRIDE as usize).collect();
+    let mut sum = 0;
+    let mut clear = vec![(sum, 0)];
+    for stride in &strides {
+        sum += stride.iter().map(|&byte| u64::from(byte)).sum::<u64>();
+        clear.push((sum, 0));
+    }
+    for (i, stride) in strides.iter().enumerate().rev() {
+        if stride.iter().all(|byte| byte & 0x80 == 0) {
+            clear[i].1 = clear[i + 1].1 + 1;
+        }
+    }
+    clear
 }
 
 /// What a lookup needs of the inner page at a position in a chunk that is located.
@@ -46,7 +81,7 @@ pub fn inner<'a>(
     position: &Position,
 ) -> Outcome<Ways<'a>> {
     let span = place(image, chunk, position)?;
-    let mut fields = Fields { bytes: image.bytes_of(span), at: FIELDS };
+    let mut fields = Fields { bytes: image.bytes_of(span), start: span.at, at: FIELDS, runs };
     let check = check_value(position.chunk, position.offset, span.length);
     if big_endian(fields.bytes, 4, 2) != Some(check) {
         return Err(CHECK_VALUE);
@@ -60,20 +95,22 @@ pub fn inner<'a>(
     }
     let positions = fields.part(POSITION * (n + 1))?;
     fields.counts(n + 1)?;
-    let keys = fields.keys(n, |at| runs.from(span.at + at))?;
+    let keys = fields.keys(n)?;
     let child = |i| big_endian(positions, POSITION * i, POSITION).ok_or(CONTENTS);
     let ways: Outcome<_> = keys.into_iter().map(|(key, i)| Ok((key, child(i)?))).collect();
     let whole = fields.at == fields.bytes.len() as u64;
     whole.then_some(Ways::Inner(ways?, child(n)?)).ok_or(CONTENTS)
 }
 
-struct Fields<'a> {
-    /// The whole page.
+struct Fields<'a, 'r> {
+    /// The whole page, and where it begins in the image.
     bytes: &'a [u8],
+    start: u64,
     at: u64,
+    runs: &'r Runs,
 }
 
-impl<'a> Fields<'a> {
+impl<'a> Fields<'a, '_> {
     fn variable(&mut self, limit: u64) -> Outcome<u64> {
         let (value, next) = variable(self.bytes, self.at, limit).ok_or(CONTENTS)?;
         self.at = next;
@@ -86,23 +123,20 @@ impl<'a> Fields<'a> {
         Ok(bytes)
     }
 
-    /// As many of the next bytes as have no high bit set, in whole strides.
-    fn run(&mut self, most: u64) -> &'a [u8] {
-        let rest = &self.bytes[self.at as usize..];
-        let rest = &rest[..rest.len().min(most as usize)];
-        let clear = |stride: &&[u8]| stride.iter().fold(0, |all, byte| all | byte) & 0x80 == 0;
-        let run = &rest[..rest.chunks_exact(STRIDE).take_while(clear).count() * STRIDE];
-        self.at += run.len() as u64;
-        run
+    fn left(&self) -> u64 {
+        self.bytes.len() as u64 - self.at
     }
 
     fn counts(&mut self, n: u64) -> Outcome<()> {
         let (mut left, mut sum) = (n, 0);
         while left > 0 {
-            let run = self.run(left);
-            sum += run.iter().map(|&byte| u64::from(byte)).sum::<u64>();
-            left -= run.len() as u64;
-            let more = left.min(STRIDE as u64);
+            let place = self.start + self.at;
+            let (length, total) = self.runs.clear_from(place, left.min(self.left()));
+            self.at += length;
+            sum += total;
+            left -= length;
+            // One by one to the next stride.
+            let more = left.min(STRIDE - place % STRIDE);
             for _ in 0..more {
                 sum += self.variable(COUNTS.saturating_sub(sum))?;
             }
@@ -112,17 +146,16 @@ impl<'a> Fields<'a> {
         (sum < COUNTS).then_some(()).ok_or(CONTENTS)
     }
 
-    /// The keys that are greater than all before them, each with its number; by how many bytes from
-    /// a place on are equal.
-    fn keys(&mut self, n: u64, equal: impl Fn(u64) -> u64) -> Outcome<Vec<(Key<'a>, u64)>> {
+    /// The keys that are greater than all before them, each with its number.
+    fn keys(&mut self, n: u64) -> Outcome<Vec<(Key<'a>, u64)>> {
         let (mut keys, mut i) = (Vec::new(), 0);
         while i < n {
-            let at = self.at;
+            let (at, left) = (self.at, self.left());
             push_risen(&mut keys, self.key()?, || i);
-            // Where the key is the whole of equal bytes, the same key comes again and again.
+            // Where the bytes from here on are equal, the same key comes again and again.
             let length = self.at - at;
-            let left = (self.bytes.len() as u64 - at).min(equal(at));
-            let same = (left / length).clamp(1, n - i);
+            let equal = self.runs.equal_from(self.start + at).min(left);
+            let same = (equal / length).clamp(1, n - i);
             self.at = at + same * length;
             i += same;
         }
