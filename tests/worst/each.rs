@@ -25,6 +25,12 @@ pub fn each(size: usize) -> Worst {
     Shared::new(size as u64).layout().worst()
 }
 
+/// The same pages, with chunks in those blocks alone that are positions of all.
+pub fn among_positions(size: u64) -> Layout {
+    let shared = Shared::new(size);
+    Layout { blocks: shared.end / BLOCK, ..shared.layout() }
+}
+
 /// The shared bytes, by their offsets in the newest chunk. A page is named by where it begins.
 struct Shared {
     /// Where all positions end.

@@ -15,6 +15,7 @@
 //! | `each`     | such pages that are nearly as long as the image |
 //! | `aligned`  | such pages with text keys that never meet |
 //! | `spread`   | such pages whose keys lie all over the upper half of the image |
+//! | `layers`   | such pages as in `each`, and chunks behind them that need others |
 //! | `count`, `ask` | a reader that counts what a call needs |
 //! | `ways`, `runs` | what a lookup needs of a page, and a fast way to judge wide ones |
 //! | `asked`    | a call of the exports in a process of its own |
@@ -30,6 +31,7 @@ pub mod count;
 mod deep;
 mod draft;
 mod each;
+mod layers;
 mod many;
 mod metadata;
 mod nested;
@@ -107,11 +109,12 @@ const fn longest(name: &'static str, maker: Maker) -> Named {
     Named { sizes: &[1, 4, 16, 40], short: 1024, ..named(name, maker) }
 }
 
-pub const ALL: [Named; 21] = [
+pub const ALL: [Named; 22] = [
     named("nested", nested::nested),
     slow("nested-lines", nested::long_lines),
     slow("nested-values", nested::long_values),
     growing("nested-wide", nested::wide_inner),
+    growing("nested-each", layers::each),
     growing("wide-metadata", metadata::wide_leaf),
     longest("chain", chain::chain),
     longest("chain-lines", chain::long_lines),

@@ -119,7 +119,7 @@ impl Layout {
 }
 
 /// Writes a path of pages, from the last to the first.
-fn write_path(draft: &mut Draft, path: &[WidePage], leaf: u64) -> u64 {
+pub fn write_path(draft: &mut Draft, path: &[WidePage], leaf: u64) -> u64 {
     path.iter().rev().fold(leaf, |next, page| {
         let header = header(METADATA_PLAN.id, page.start, page.length, page.n, 1);
         draft.write_over(NEWEST, page.start, &header);
