@@ -10,16 +10,29 @@ use Rattle.key.specs.declared.Kind.the-variants as kind
 use Rattle.key.specs.declared.sized.Sized.the-variants.{At, Bad}
 use Rattle.key.specs.Key.{Key, keyOf, compareKeys}
 use Rattle.item.specs.declared.Form.the-variants.{Text}
-use Rattle.item.specs.Item.{itemAt}
+use Rattle.item.specs.declared.Skip.the-variants.{Past}
+use Rattle.item.specs.Item.{itemAt, skipped}
+use Rattle.item.specs.ItemLaws.{skipped-none, skipped-more}
 use Rattle.content.specs.declared.Probe.the-variants.{UpTo}
 use Rattle.content.specs.Content.{probeAt}
 use Rattle.stretch.specs.declared.Passing.{Passing}
 use Rattle.stretch.specs.declared.Stretch.{Stretch}
 use Rattle.stretch.specs.Led.{passes, isEqual}
 use Rattle.stretch.specs.Stretch.{Texts}
+use Rattle.stretch.specs.JumpLaws.{skipped-jump}
 use Rattle.stretch.specs.LedLaws.{keysFrom-stuck, keysFrom-shut, keysFrom-on, keysFrom-met, keysFrom-jump, keysFrom-jump-shut}
 use Rattle.store.specs.declared.passing.Turn.the-variants.{On, Stuck}
 use Rattle.store.specs.Passing.{keysOf, Near, Jumped, onKey, metKey, afterKey, TurnedOnce}
+
+-- ## Keys one by one
+module _ (s : List ℕ) (m i : ℕ) {j : ℕ} (e : skipped s Text m i ≡ Past j) (n : ℕ) where
+  pub skipped-as : n ≡ m → skipped s Text n i ≡ Past j
+  skipped-as q = rw q e
+
+  pub skipped-then : {h : ℕ} → skipped s Text 1 j ≡ Past h → n ≡ m + 1 → skipped s Text n i ≡ Past h
+  skipped-then one q =
+      let d : n - m ≡ 1 = omega arith in
+      skipped-jump s Text n i e (omega arith) ∙ rw d one
 
 module _ (s : List ℕ) (leaf : Bool) (k : Key) (p : Passing) (near : Near p) where
   pub jumped-not : Jumped s leaf k p p
@@ -54,11 +67,14 @@ module _ (s : List ℕ) (leaf : Bool) (k : Key) (p : Passing) (near : Near p) wh
     once-stuck e = keysFrom-stuck s leaf k (p .left) (p .i) (p .lead) (p .same) (p .going) some-left e
 
     module _ {at len next : ℕ} (e : itemAt s Text (p .i) ≡ At at len next) where
+      past : skipped s Text 1 (p .i) ≡ Past next
+      past = skipped-more s Text 1 (p .i) (omega arith) e ∙ skipped-none s Text 0 next (omega arith)
+
       pub once-shut : p .going ≡ false
           → TurnedOnce s leaf k p (On (record { i = next; left = p .left - 1; lead = p .lead; going = false; same = p .same }))
       unfolding TurnedOnce
       once-shut shut =
-          (omega arith, omega arith, rw shut (sym (keysFrom-shut s leaf k (p .left) (p .i) (p .lead) (p .same) some-left e)))
+          (omega arith, omega arith, past, rw shut (sym (keysFrom-shut s leaf k (p .left) (p .i) (p .lead) (p .same) some-left e)))
 
       pub once-after : p .going ≡ true → (o : Order) → o ≡ compareKeys (keyOf kind.Text (take (next - at) (drop at s))) k
           → (q : Passing) → q ≡ afterKey p next o leaf → TurnedOnce s leaf k p (On q)
@@ -70,6 +86,6 @@ module _ (s : List ℕ) (leaf : Bool) (k : Key) (p : Passing) (near : Near p) wh
 
           go : (t : Bool) → passes leaf by ≡ t → TurnedOnce s leaf k p (On (cond t (onKey p next) (metKey p next (isEqual by))))
           go true f =
-              (omega arith, omega arith, rw going (sym (keysFrom-on s leaf k (p .left) (p .i) (p .lead) (p .same) some-left e f)))
+              (omega arith, omega arith, past, rw going (sym (keysFrom-on s leaf k (p .left) (p .i) (p .lead) (p .same) some-left e f)))
           go false f =
-              (omega arith, omega arith, rw going (sym (keysFrom-met s leaf k (p .left) (p .i) (p .lead) (p .same) some-left e f)))
+              (omega arith, omega arith, past, rw going (sym (keysFrom-met s leaf k (p .left) (p .i) (p .lead) (p .same) some-left e f)))

@@ -1,8 +1,11 @@
 // A pass over recorded counts.
 use super::trail::Trail;
-use super::trail::beyond;
-use super::trail::met;
+use super::trail::landed;
+use super::trail::leapt;
+use super::trail::met_far;
+use super::trail::met_near;
 use super::trail::room;
+use super::trail::stop_of;
 use super::trail::trail_at;
 use super::trail::tread;
 use item::COUNT_LIMIT;
@@ -14,8 +17,8 @@ ghost use mathlib.Core.Path.{_≡_};
 ghost use mathlib.Core.Bool.{true};
 ghost use Prim.Native.Nat.{_+_, _<_, _≤_, _^_};
 ghost use Rattle.item.specs.Item.{counted};
-ghost use Rattle.stretch.specs.Stretch.{Stretches};
-ghost use Rattle.store.specs.Passing.{SummedOf};
+ghost use Rattle.stretch.specs.Stretch.{Counts, Stretches};
+ghost use Rattle.store.specs.Passing.{SummedOf, SummedUpTo};
 
 // Whether a stretch can be passed at once: it is no longer than what is left, and keeps the sum below
 // 2^48.
@@ -43,6 +46,50 @@ pub enum Summed {
     Stuck,
 }
 
+// Eight of `n` counts from `i` on, if each has one byte; else one. `total` is the sum before.
+fn next_counts(image: &[u8], n: u64, i: usize, total: u64, most: u32) -> Summed
+    requires { ⌜ (0 < most) × (most ≤ n) × (total < 2 ^ 48) ⌝ }
+    ensures { λ r. ⌜ SummedUpTo (now (image .entry)) n i total most r ⌝ }
+{
+    if 8 <= most {
+        let eight = item::eight_counts(image, i);
+        if eight < item::NO_SUM {
+            if eight < COUNT_LIMIT - total {
+                return Summed::To {
+                    left: n - 8,
+                    sum: total + eight,
+                    next: i + 8,
+                };
+            }
+        }
+    }
+    let v = numeral::read_var(image, i, COUNT_LIMIT);
+    let Numeral::Read { value, next } = v else {
+        return Summed::Stuck;
+    };
+    if COUNT_LIMIT - total <= value {
+        return Summed::Stuck;
+    }
+    Summed::To {
+        left: n - 1,
+        sum: total + value,
+        next,
+    }
+}
+
+// So many items, but no more than there are places up to `stop`.
+fn nearer(more: u32, j: usize, stop: usize) -> u32
+    requires { ⌜ 0 < more ⌝ }
+    ensures { λ r. ⌜ (0 < r) × (r ≤ more) ⌝ }
+{
+    if j < stop {
+        if stop - j < more as usize {
+            return (stop - j) as u32;
+        }
+    }
+    more
+}
+
 // Of `n` counts from `i` on, `most` one by one, or up to the place `stop`; `total` is the sum before.
 fn run_counts(image: &[u8], n: u64, i: usize, total: u64, most: u32, stop: usize) -> Summed
     requires { ⌜ (0 < most) × (most ≤ n) × (total < 2 ^ 48) ⌝ }
@@ -53,17 +100,20 @@ fn run_counts(image: &[u8], n: u64, i: usize, total: u64, most: u32, stop: usize
     let mut sum = total;
     let mut more = most;
     while 0 < more {
-        let v = numeral::read_var(image, j, COUNT_LIMIT);
-        let Numeral::Read { value, next } = v else {
+        let near = nearer(more, j, stop);
+        let u = next_counts(image, left, j, sum, near);
+        let Summed::To {
+            left: rest,
+            sum: s,
+            next,
+        } = u
+        else {
             return Summed::Stuck;
         };
-        if COUNT_LIMIT - sum <= value {
-            return Summed::Stuck;
-        }
+        more -= (left - rest) as u32;
+        left = rest;
+        sum = s;
         j = next;
-        sum += value;
-        left -= 1;
-        more -= 1;
         if stop <= j {
             return Summed::To { left, sum, next: j };
         }
@@ -71,15 +121,38 @@ fn run_counts(image: &[u8], n: u64, i: usize, total: u64, most: u32, stop: usize
     Summed::To { left, sum, next: j }
 }
 
+// Some of `n` counts more: by a stretch, if it can be passed, or `most` one by one.
+fn some_counts(
+    image: &[u8],
+    s: Stretch,
+    n: u64,
+    i: usize,
+    total: u64,
+    most: u32,
+    stop: usize,
+) -> Summed
+    requires { ⌜ (0 < most) × (most ≤ n) × (total < 2 ^ 48) × (0 < s .count → Counts (now image) i (s .count) (s .next) (s .more)) ⌝ }
+    ensures { λ r. ⌜ SummedOf (now (image .entry)) n i total r ⌝ }
+{
+    if can_pass(s, n, total) {
+        return Summed::To {
+            left: n - s.count as u64,
+            sum: total + s.more,
+            next: s.next,
+        };
+    }
+    run_counts(image, n, i, total, most, stop)
+}
+
 // How many of `left` counts may be passed one by one.
-fn counts_room(t: Trail, left: u64) -> u32
+fn counts_room(marks: &[u64], t: Trail, s: Stretch, left: u64) -> u32
     requires { ⌜ 0 < left ⌝ }
     ensures { λ r. ⌜ (0 < r) × (r ≤ left) ⌝ }
 {
     if left < 4294967296 {
-        return room(t, left as u32);
+        return room(marks, t, COUNTS, s, left as u32);
     }
-    room(t, 4294967295)
+    room(marks, t, COUNTS, s, 4294967295)
 }
 
 // The sum of `n` recorded counts, and the place after them.
@@ -92,15 +165,17 @@ pub(crate) fn pass_counts(image: &[u8], marks: &mut [u64], n: u64, at: usize) ->
     let mut sum: u64 = 0;
     let mut t = trail_at(marks, COUNTS, at);
     while 0 < left {
-        let s = met(marks, t, COUNTS, i);
-        if can_pass(s, left, sum) {
-            i = s.next;
-            left -= s.count as u64;
-            sum += s.more;
-            t = beyond(marks, t, COUNTS, i);
+        let f = met_far(image, marks, t, COUNTS, i);
+        if can_pass(f, left, sum) {
+            i = f.next;
+            left -= f.count as u64;
+            sum += f.more;
+            t = leapt(marks, t, COUNTS, i);
         } else {
-            let most = counts_room(t, left);
-            let r = run_counts(image, left, i, sum, most, t.stop);
+            t = landed(marks, t, COUNTS, i);
+            let s = met_near(image, marks, t, COUNTS, i);
+            let most = counts_room(marks, t, s, left);
+            let r = some_counts(image, s, left, i, sum, most, stop_of(t, s));
             let Summed::To {
                 left: rest,
                 sum: total,
@@ -109,14 +184,8 @@ pub(crate) fn pass_counts(image: &[u8], marks: &mut [u64], n: u64, at: usize) ->
             else {
                 return Counted::Stuck;
             };
-            t = tread(
-                image,
-                marks,
-                t,
-                COUNTS,
-                ((left - rest) % 4294967296) as u32,
-                next,
-            );
+            let count = ((left - rest) % 4294967296) as u32;
+            t = tread(image, marks, t, COUNTS, s, count, i, next, rest == 0);
             i = next;
             sum = total;
             left = rest;

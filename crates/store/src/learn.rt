@@ -6,7 +6,8 @@ use item::Skip;
 use key::Kind;
 use key::Sized;
 use stretch::Stretch;
-ghost use Prim.Native.Nat.{_<_, _≤_};
+ghost use mathlib.Core.Path.{_≡_};
+ghost use Prim.Native.Nat.{_<_, _≤_, _%_};
 ghost use Rattle.stretch.specs.Stretch.{Texts, Stretches};
 
 // `n` text keys from `at` on, with the place of one that none of them is greater than; no items where
@@ -50,18 +51,18 @@ fn greatest(image: &[u8], n: u32, at: usize) -> Stretch
     }
 }
 
-fn learn_texts(image: &[u8], marks: &mut [u64], n: u32, at: usize)
-    requires { ⌜ Stretches (now image) (now marks) ⌝ }
+fn learn_texts(image: &[u8], marks: &mut [u64], form: u32, n: u32, at: usize)
+    requires { ⌜ (form % 4 ≡ 1) × Stretches (now image) (now marks) ⌝ }
     ensures { λ _. ⌜ Stretches (now (image .entry)) (now (marks .exit)) ⌝ }
 {
     let s = greatest(image, n, at);
     if 0 < s.count {
-        stretch::keep(marks, stretch::TEXTS, at, s);
+        stretch::keep(marks, form, at, s);
     }
 }
 
-fn learn_values(image: &[u8], marks: &mut [u64], n: u32, at: usize)
-    requires { ⌜ Stretches (now image) (now marks) ⌝ }
+fn learn_values(image: &[u8], marks: &mut [u64], form: u32, n: u32, at: usize)
+    requires { ⌜ (form % 4 ≡ 2) × Stretches (now image) (now marks) ⌝ }
     ensures { λ _. ⌜ Stretches (now (image .entry)) (now (marks .exit)) ⌝ }
 {
     let a = item::skip_items(image, Form::Bytes, n as u64, at);
@@ -71,12 +72,12 @@ fn learn_values(image: &[u8], marks: &mut [u64], n: u32, at: usize)
             next,
             more: 0,
         };
-        stretch::keep(marks, stretch::VALUES, at, s);
+        stretch::keep(marks, form, at, s);
     }
 }
 
-fn learn_counts(image: &[u8], marks: &mut [u64], n: u32, at: usize)
-    requires { ⌜ Stretches (now image) (now marks) ⌝ }
+fn learn_counts(image: &[u8], marks: &mut [u64], form: u32, n: u32, at: usize)
+    requires { ⌜ (form % 4 ≡ 3) × Stretches (now image) (now marks) ⌝ }
     ensures { λ _. ⌜ Stretches (now (image .entry)) (now (marks .exit)) ⌝ }
 {
     let a = item::sum_counts(image, n as u64, at);
@@ -86,7 +87,7 @@ fn learn_counts(image: &[u8], marks: &mut [u64], n: u32, at: usize)
             next,
             more: total,
         };
-        stretch::keep(marks, stretch::COUNTS, at, s);
+        stretch::keep(marks, form, at, s);
     }
 }
 
@@ -95,11 +96,23 @@ pub(crate) fn learn(image: &[u8], marks: &mut [u64], form: u32, n: u32, at: usiz
     requires { ⌜ Stretches (now image) (now marks) ⌝ }
     ensures { λ _. ⌜ Stretches (now (image .entry)) (now (marks .exit)) ⌝ }
 {
-    if form == stretch::TEXTS {
-        learn_texts(image, marks, n, at);
-    } else if form == stretch::VALUES {
-        learn_values(image, marks, n, at);
-    } else {
-        learn_counts(image, marks, n, at);
+    let kind = form % 4;
+    if is_full(marks) {
+        return;
     }
+    if kind == stretch::TEXTS {
+        learn_texts(image, marks, form, n, at);
+    } else if kind == stretch::VALUES {
+        learn_values(image, marks, form, n, at);
+    } else if kind == stretch::COUNTS {
+        learn_counts(image, marks, form, n, at);
+    }
+}
+
+pub(crate) fn is_full(marks: &[u64]) -> bool {
+    let n = marks.len() / 2;
+    if n == 0 {
+        return true;
+    }
+    marks[2 * n - 2] != 0
 }

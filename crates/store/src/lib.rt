@@ -6,9 +6,11 @@ mod counts;
 mod down;
 mod examining;
 mod fetch;
+mod join;
 mod keys;
 mod learn;
 mod locate;
+mod part;
 mod passing;
 mod read;
 mod settle;
@@ -73,6 +75,12 @@ fn large_memory() -> [u64; 16384]
     ensures { λ r. ⌜ r ≡ replicate 16384 0 ⌝ }
 {
     [0u64; 16384]
+}
+
+fn largest_memory() -> [u64; 49152]
+    ensures { λ r. ⌜ r ≡ replicate 49152 0 ⌝ }
+{
+    [0u64; 49152]
 }
 
 // How many questions may be open at once.

@@ -1,7 +1,10 @@
 // A pass over text keys with a lookup's key.
-use super::trail::beyond;
-use super::trail::met;
+use super::part::met_texts;
+use super::trail::landed;
+use super::trail::leapt;
+use super::trail::met_far;
 use super::trail::room;
+use super::trail::stop_of;
 use super::trail::trail_at;
 use super::trail::tread;
 use content::Probe;
@@ -17,9 +20,10 @@ ghost use Prim.Native.Nat.{_+_, _<_, _≤_, _^_};
 ghost use mathlib.Core.Bool.{true, false};
 ghost use mathlib.Core.Path.{_≡_};
 ghost use Rattle.key.specs.Key.{keyOf};
+ghost use Rattle.item.specs.Item.{itemAt};
 ghost use Rattle.stretch.specs.Stretch.{Texts, Stretches};
 ghost use Rattle.stretch.specs.Led.{keysFrom};
-ghost use Rattle.store.specs.Passing.{Near, Jumped, onKey, metKey, afterKey, TurnedOnce, Turned};
+ghost use Rattle.store.specs.Passing.{Near, Jumped, onKey, metKey, afterKey, TurnedOnce, Ran, Turned};
 
 pub enum Turn {
     On(Passing),
@@ -109,12 +113,11 @@ fn after_key(p: Passing, next: usize, o: Order, leaf: bool) -> Passing
     }
 }
 
-// The pass after one key more.
-fn one_key(image: &[u8], p: Passing, key: &[u8], leaf: bool) -> Turn
-    requires { ⌜ Near p × (0 < p .left) ⌝ }
+// The pass after one key more, which is read as `it`.
+fn one_key(image: &[u8], p: Passing, key: &[u8], leaf: bool, it: Sized) -> Turn
+    requires { ⌜ Near p × (0 < p .left) × (it ≡ itemAt (now image) Form.Text (p .i)) ⌝ }
     ensures { λ r. ⌜ TurnedOnce (now (image .entry)) leaf (keyOf Kind.Text (now (key .entry))) p r ⌝ }
 {
-    let it = item::item_at(image, Form::Text, p.i);
     let Sized::At { at, len: _, next } = it else {
         return Turn::Stuck;
     };
@@ -131,6 +134,29 @@ fn one_key(image: &[u8], p: Passing, key: &[u8], leaf: bool) -> Turn
     })
 }
 
+// The keys of a stretch one by one, up to the one that stops the lookup. They were read before, so that
+// their lengths are enough.
+fn scan_keys(image: &[u8], s: Stretch, p: Passing, key: &[u8], leaf: bool) -> Turn
+    requires { ⌜ Near p × (0 < s .count) × (s .count ≤ p .left) × Texts (now image) (p .i) (s .count) (s .next) (s .more) ⌝ }
+    ensures { λ r. ⌜ Ran (now (image .entry)) leaf (keyOf Kind.Text (now (key .entry))) p (s .count) r ⌝ }
+{
+    let mut q = p;
+    let mut more = s.count;
+    while 0 < more {
+        let it = item::item_at(image, Form::Bytes, q.i);
+        let u = one_key(image, q, key, leaf, it);
+        let Turn::On(v) = u else {
+            return Turn::Stuck;
+        };
+        q = v;
+        more -= 1;
+        if q.going {} else {
+            return Turn::On(q);
+        }
+    }
+    Turn::On(q)
+}
+
 // `most` keys one by one, or up to the place `stop`.
 fn run_keys(image: &[u8], p: Passing, key: &[u8], leaf: bool, most: u32, stop: usize) -> Turn
     requires { ⌜ Near p × (0 < most) × (most ≤ p .left) ⌝ }
@@ -139,7 +165,8 @@ fn run_keys(image: &[u8], p: Passing, key: &[u8], leaf: bool, most: u32, stop: u
     let mut q = p;
     let mut more = most;
     while 0 < more {
-        let u = one_key(image, q, key, leaf);
+        let it = item::item_at(image, Form::Text, q.i);
+        let u = one_key(image, q, key, leaf, it);
         let Turn::On(v) = u else {
             return Turn::Stuck;
         };
@@ -150,6 +177,47 @@ fn run_keys(image: &[u8], p: Passing, key: &[u8], leaf: bool, most: u32, stop: u
         }
     }
     Turn::On(q)
+}
+
+// A stretch from where the pass is: at once, if it can be; else its keys one by one up to the one that
+// stops the lookup, and what follows of it at once.
+fn by_stretch(image: &[u8], s: Stretch, p: Passing, key: &[u8], leaf: bool) -> Turn
+    requires { ⌜ Near p × (0 < s .count) × (s .count ≤ p .left) × Texts (now image) (p .i) (s .count) (s .next) (s .more) ⌝ }
+    ensures { λ r. ⌜ Turned (now (image .entry)) leaf (keyOf Kind.Text (now (key .entry))) p r ⌝ }
+{
+    let q = jump(image, s, p, key, leaf);
+    if q.left < p.left {
+        return Turn::On(q);
+    }
+    let u = scan_keys(image, s, p, key, leaf);
+    let Turn::On(v) = u else {
+        return Turn::Stuck;
+    };
+    let rest = Stretch {
+        count: s.count - (p.left - v.left),
+        next: s.next,
+        more: s.more,
+    };
+    Turn::On(jump(image, rest, v, key, leaf))
+}
+
+// Some keys more: by a stretch, if there is one, or `most` one by one.
+fn some_keys(
+    image: &[u8],
+    s: Stretch,
+    p: Passing,
+    key: &[u8],
+    leaf: bool,
+    most: u32,
+    stop: usize,
+) -> Turn
+    requires { ⌜ Near p × (s .count ≤ p .left) × (0 < s .count → Texts (now image) (p .i) (s .count) (s .next) (s .more)) × (0 < most) × (most ≤ p .left) ⌝ }
+    ensures { λ r. ⌜ Turned (now (image .entry)) leaf (keyOf Kind.Text (now (key .entry))) p r ⌝ }
+{
+    if s.count == 0 {
+        return run_keys(image, p, key, leaf, most, stop);
+    }
+    by_stretch(image, s, p, key, leaf)
 }
 
 // Passes `n` text keys from `at` on, at a leaf or an inner page.
@@ -173,16 +241,29 @@ pub(crate) fn pass_texts(
     };
     let mut t = trail_at(marks, TEXTS, at);
     while 0 < p.left {
-        let q = jump(image, met(marks, t, TEXTS, p.i), p, key, leaf);
+        let q = jump(image, met_far(image, marks, t, TEXTS, p.i), p, key, leaf);
         if q.left < p.left {
             p = q;
-            t = beyond(marks, t, TEXTS, p.i);
+            t = leapt(marks, t, TEXTS, p.i);
         } else {
-            let u = run_keys(image, p, key, leaf, room(t, p.left), t.stop);
+            t = landed(marks, t, TEXTS, p.i);
+            let s = met_texts(image, marks, t, p.i, p.left);
+            let most = room(marks, t, TEXTS, s, p.left);
+            let u = some_keys(image, s, p, key, leaf, most, stop_of(t, s));
             let Turn::On(v) = u else {
                 return Keys::Stuck;
             };
-            t = tread(image, marks, t, TEXTS, p.left - v.left, v.i);
+            t = tread(
+                image,
+                marks,
+                t,
+                TEXTS,
+                s,
+                p.left - v.left,
+                p.i,
+                v.i,
+                v.left == 0,
+            );
             p = v;
         }
     }

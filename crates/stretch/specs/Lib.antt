@@ -8,3 +8,6 @@ pub mod TextsLaws
 pub mod CutItemLaws
 pub mod CutLaws
 pub mod CutKeyLaws
+pub mod PartLaws
+pub mod ClearLaws
+pub mod JoinLaws

@@ -15,13 +15,13 @@ use Rattle.memory.specs.declared.Recalled.{Recalled}
 use Rattle.memory.specs.declared.Recalled.the-variants.{At, Free, Full}
 use Rattle.memory.specs.Words.{places, chunkIn, soughtIn, recalledAt, rememberedIn}
 use Rattle.stretch.specs.declared.Stretch.{Stretch}
-use Rattle.stretch.specs.Stretch.{countIn, moreIn, formIn, fromIn}
+use Rattle.stretch.specs.Stretch.{formIn, fromIn, stretchOf}
 
 abbrev pub idOf : ℕ → ℕ → ℕ
-idOf form i = form % 4 * 0x40000000 + i
+idOf form i = form % 8 * 0x20000000 + i
 
 unfoldable pub soughtFor : List ℕ → ℕ → ℕ → ℕ
-soughtFor ws form i = cond (ltb i 0x40000000) (soughtIn ws (idOf form i)) (length ws)
+soughtFor ws form i = cond (ltb i 0x20000000) (soughtIn ws (idOf form i)) (length ws)
 
 unfoldable pub beginsAt : List ℕ → ℕ → ℕ → ℕ
 beginsAt ws n form =
@@ -32,20 +32,20 @@ abbrev pub nothingAt : ℕ → Stretch
 nothingAt i = record { count = 0; next = i; more = 0 }
 
 abbrev pub stretchBy : ℕ → Recalled → Stretch
-stretchBy i (At l need) = record { count = countIn l; next = i + l .len; more = moreIn l }
+stretchBy i (At l need) = stretchOf i l
 stretchBy i (Free n) = nothingAt i
 stretchBy i Full = nothingAt i
 
 unfoldable pub stretchAt : List ℕ → ℕ → ℕ → ℕ → Stretch
-stretchAt ws n form i = cond (ltb i 0x40000000) (stretchBy i (recalledAt n ws (idOf form i))) (nothingAt i)
+stretchAt ws n form i = cond (ltb i 0x20000000) (stretchBy i (recalledAt n ws (idOf form i))) (nothingAt i)
 
 -- ## A stretch more
 unfoldable pub fits : ℕ → Stretch → Bool
 fits i s =
-    ltb i 0x40000000 && (ltb (s .count) 4096 && (leb i (s .next) && (ltb (s .next - i) 0x100000000 && ltb (s .more) 0x1000000000000)))
+    ltb i 0x20000000 && (ltb (s .count) 0x10000 && (leb i (s .next) && (ltb (s .next - i) 0x100000000 && ltb (s .more) 0x100000000000)))
 
 abbrev pub placeFor : ℕ → Stretch → Place
-placeFor i s = record { block = s .count + s .more / 0x100000000 * 4096; len = s .next - i; first = s .more % 0x100000000 }
+placeFor i s = record { block = s .count + s .more / 0x100000000 * 0x10000; len = s .next - i; first = s .more % 0x100000000 }
 
 unfoldable pub keptIn : List ℕ → ℕ → ℕ → Stretch → List ℕ
 keptIn ws form i s = cond (fits i s) (rememberedIn ws (idOf form i) (placeFor i s) 1) ws

@@ -85,22 +85,22 @@ unfolding keysIn keyForm
 keys-last s m i p q = rw (items-last s Text m i p q, map-append)
 
 -- ## The order
-self-false : (k : Key) → below compareKeys k k ≡ false
+pub self-false : (k : Key) → below compareKeys k k ≡ false
 self-false k = rw (key-order .self k)
 
 -- "is not below" is transitive
-upto-false : (a b c : Key) → below compareKeys a b ≡ false → below compareKeys b c ≡ false → below compareKeys a c ≡ false
+pub upto-false : (a b c : Key) → below compareKeys a b ≡ false → below compareKeys b c ≡ false → below compareKeys a c ≡ false
 upto-false a b c p q =
     false-below compareKeys a c (λ h. below-false compareKeys b c q (upto-below-below key-order b a c (below-false compareKeys a b p) h))
 
 -- ## One key, and one key more
 module _ (s : List ℕ) where
-  key-here : (i : ℕ) {at len next : ℕ} → itemAt s Text i ≡ At at len next → keyHere s i ≡ some (keyIn s kind.Text (record { at = at; len = len }))
+  pub key-here : (i : ℕ) {at len next : ℕ} → itemAt s Text i ≡ At at len next → keyHere s i ≡ some (keyIn s kind.Text (record { at = at; len = len }))
   unfolding keyHere
   key-here i e = rw e
 
   -- the key's bytes are those from its place up to the place after it
-  key-bytes : (i : ℕ) {at len next : ℕ} → itemAt s Text i ≡ At at len next
+  pub key-bytes : (i : ℕ) {at len next : ℕ} → itemAt s Text i ≡ At at len next
       → keyOf kind.Text (take (next - at) (drop at s)) ≡ keyIn s kind.Text (record { at = at; len = len })
   unfolding keyIn
   key-bytes i {at} {len} {next} e =
@@ -108,7 +108,7 @@ module _ (s : List ℕ) where
       rw n
 
   -- the key that stands at a place is the one that is read there
-  here-got : (i : ℕ) {spot : Spot} {next : ℕ} {k : Key} → items s Text i ≡ got spot next → keyHere s i ≡ some k → keyIn s kind.Text spot ≡ k
+  pub here-got : (i : ℕ) {spot : Spot} {next : ℕ} {k : Key} → items s Text i ≡ got spot next → keyHere s i ≡ some k → keyIn s kind.Text spot ≡ k
   unfolding items keyHere
   here-got i {spot} {next} {k} r h = go (itemAt s Text i) r h
     where
@@ -117,7 +117,7 @@ module _ (s : List ℕ) where
       go (At at len after) r h = cc
       go Bad r h = cc
 
-  here-bad : (i : ℕ) {k : Key} → items s Text i ≡ bad → keyHere s i ≡ some k → ⊥
+  pub here-bad : (i : ℕ) {k : Key} → items s Text i ≡ bad → keyHere s i ≡ some k → ⊥
   unfolding items keyHere
   here-bad i {k} r h = go (itemAt s Text i) r h
     where

@@ -1,9 +1,11 @@
 // Stretches: items of a wide page that a call has read once and remembers, so that it passes them at
 // once where it reads them again. They are kept in words as located chunks are, by their form and
-// first place in place of an id: text keys, values and recorded counts each have a form.
+// first place in place of an id: text keys, values and recorded counts each have a form, and another
+// for far stretches, which pass what many near ones do.
 use memory::Recalled;
 use page::Place;
 ghost use mathlib.Core.Path.{_≡_};
+ghost use lib.ListN.{length, replicate};
 ghost use Rattle.stretch.specs.Marks.{soughtFor, beginsAt, nothingAt, stretchAt, fits, keptIn};
 
 // The forms.
@@ -13,8 +15,11 @@ pub const VALUES: u32 = 2;
 
 pub const COUNTS: u32 = 3;
 
-// A stretch begins before this place: 2^30.
-pub const PLACES: usize = 1073741824;
+// The form of a far stretch is this more.
+pub const FAR: u32 = 4;
+
+// A stretch begins before this place: 2^29.
+pub const PLACES: usize = 536870912;
 
 // A place that no stretch begins at.
 pub const NOWHERE: usize = 18446744073709551615;
@@ -50,7 +55,7 @@ pub fn seek(marks: &[u64], form: u32, i: usize) -> usize
     if PLACES <= i {
         return marks.len();
     }
-    memory::seek(marks, form % 4 * 1073741824 + i as u32)
+    memory::seek(marks, form % 8 * 536870912 + i as u32)
 }
 
 // Where the stretch numbered `index` begins, if it has the form.
@@ -61,8 +66,8 @@ pub fn begins_at(marks: &[u64], index: usize, form: u32) -> usize
         return NOWHERE;
     }
     let id = marks[2 * index] / 4294967296;
-    if id / 1073741824 == form as u64 {
-        return (id % 1073741824) as usize;
+    if id / 536870912 == form as u64 {
+        return (id % 536870912) as usize;
     }
     NOWHERE
 }
@@ -85,12 +90,12 @@ pub fn stretch_at(marks: &[u64], index: usize, form: u32, i: usize) -> Stretch
     if PLACES <= i {
         return nothing_at(i);
     }
-    let r = memory::recall_at(marks, index, form % 4 * 1073741824 + i as u32);
+    let r = memory::recall_at(marks, index, form % 8 * 536870912 + i as u32);
     match r {
         Recalled::At { place, need: _ } => Stretch {
-            count: place.block % 4096,
+            count: place.block % 65536,
             next: i + place.len as usize,
-            more: (place.block / 4096) as u64 * 4294967296 + place.first as u64,
+            more: (place.block / 65536) as u64 * 4294967296 + place.first as u64,
         },
         Recalled::Free(_) => nothing_at(i),
         Recalled::Full => nothing_at(i),
@@ -104,7 +109,7 @@ fn fits(i: usize, s: Stretch) -> bool
     if PLACES <= i {
         return false;
     }
-    if 4096 <= s.count {
+    if 65536 <= s.count {
         return false;
     }
     if s.next < i {
@@ -113,7 +118,7 @@ fn fits(i: usize, s: Stretch) -> bool
     if 4294967296 <= s.next - i {
         return false;
     }
-    s.more < 281474976710656
+    s.more < 17592186044416
 }
 
 // Keeps a stretch of a form from `i` on, where there is room.
@@ -122,10 +127,21 @@ pub fn keep(marks: &mut [u64], form: u32, i: usize, s: Stretch)
 {
     if fits(i, s) {
         let place = Place {
-            block: s.count + (s.more / 4294967296) as u32 * 4096,
+            block: s.count + (s.more / 4294967296) as u32 * 65536,
             len: (s.next - i) as u32,
             first: (s.more % 4294967296) as u32,
         };
-        memory::remember(marks, form % 4 * 1073741824 + i as u32, place, 1);
+        memory::remember(marks, form % 8 * 536870912 + i as u32, place, 1);
+    }
+}
+
+// Forgets all stretches.
+pub fn forget(marks: &mut [u64])
+    ensures { λ _. ⌜ now (marks .exit) ≡ replicate (length (now (marks .entry))) 0 ⌝ }
+{
+    let mut i = 0;
+    while i < marks.len() {
+        marks[i] = 0;
+        i += 1;
     }
 }

@@ -1,8 +1,8 @@
 use Prim.Native.Nat.{_+_, _^_, _<_, _≤_}
 use mathlib.Core.Path.{_≡_, refl, sym, _∙_}
 use native.Mathlib.Omega.{arith}
-use Rattle.item.specs.CountLaws.{countedFrom, counted-more, counted-over, counted-bad}
-use Rattle.store.specs.Passing.{SummedOf}
+use Rattle.item.specs.CountLaws.{countedFrom}
+use Rattle.store.specs.Passing.{SummedOf, SummedUpTo}
 use borrow.Author.Needs.{needs}
 use Rattle.store.proofs.counts.run_counts.Statement.{statement}
 use Rattle.store.proofs.counts.run_counts.Tie as tie
@@ -16,32 +16,56 @@ abbrev μ-loop : tie.MeasureT-loop
 loop-holds : tie.Need-loop-holds Inv-loop μ-loop
 loop-holds c = (omega arith, omega arith, omega arith, omega arith, refl)
 
+next-counts-requires : tie.Need-next-counts-requires Inv-loop μ-loop
+next-counts-requires c κs = (omega arith, omega arith, omega arith)
+
 returns : tie.Need-returns Inv-loop μ-loop
-unfolding SummedOf
+unfolding SummedOf SummedUpTo
 returns c =
-    let l = c .before .before .before .before .loop in
-    sym (l .inv .4) ∙ counted-bad _ (l .left) (l .j) (l .sum) (omega arith) (sym (c .before .before .read-var .ensures) ∙ c .enum-told .given .1)
+    let e = rw (c .enum-told .given .1) at (c .before .before .next-counts .ensures) in
+    sym (c .before .before .before .before .before .loop .inv .4) ∙ e
+
+sub-more : tie.Need-sub-more Inv-loop μ-loop
+unfolding SummedUpTo
+sub-more c =
+    let e = rw (c .before .u .given .1) at (c .before .before .before .next-counts .ensures) in
+    omega arith
+
+cast-more : tie.Need-cast-more Inv-loop μ-loop
+unfolding SummedUpTo
+cast-more c =
+    let e = rw (c .before .u .given .1) at (c .before .before .before .next-counts .ensures) in
+    omega arith
+
+sub-more-2 : tie.Need-sub-more-2 Inv-loop μ-loop
+unfolding SummedUpTo
+sub-more-2 c =
+    let e = rw (c .before .u .given .1) at (c .before .before .before .next-counts .ensures) in
+    omega arith
 
 returns-2 : tie.Need-returns-2 Inv-loop μ-loop
-unfolding SummedOf
+unfolding SummedOf SummedUpTo
 returns-2 c =
-    let l = c .before .before .before .before .before .before .loop in
-    sym (l .inv .4) ∙ counted-over _ (l .left) (l .j) (l .sum) (omega arith) (sym (c .before .before .before .before .read-var .ensures) ∙ c .before .before .v .given .1) (omega arith)
+    let e = rw (c .before .before .u .given .1) at (c .before .before .before .before .next-counts .ensures) in
+    let l = c .before .before .before .before .before .before .before .loop in
+    (omega arith, e .2, e .3 ∙ l .inv .4)
+
+loop-less : tie.Need-loop-less Inv-loop μ-loop
+unfolding SummedUpTo
+loop-less c =
+    let e = rw (c .before .before .u .given .1) at (c .before .before .before .before .next-counts .ensures) in
+    omega arith
+
+loop-again : tie.Need-loop-again Inv-loop μ-loop
+unfolding SummedUpTo
+loop-again c =
+    let e = rw (c .before .before .u .given .1) at (c .before .before .before .before .next-counts .ensures) in
+    let l = c .before .before .before .before .before .before .before .loop in
+    (omega arith, omega arith, omega arith, e .2, e .3 ∙ l .inv .4)
 
 returns-3 : tie.Need-returns-3 Inv-loop μ-loop
 unfolding SummedOf
-returns-3 c =
-    let l = c .before .before .before .before .before .before .before .loop in
-    (omega arith, omega arith, sym (counted-more _ (l .left) (l .j) (l .sum) (omega arith) (sym (c .before .before .before .before .before .read-var .ensures) ∙ c .before .before .before .v .given .1) (omega arith)) ∙ l .inv .4)
-
-loop-again : tie.Need-loop-again Inv-loop μ-loop
-loop-again c =
-    let l = c .before .before .before .before .before .before .before .loop in
-    (omega arith, omega arith, omega arith, omega arith, sym (counted-more _ (l .left) (l .j) (l .sum) (omega arith) (sym (c .before .before .before .before .before .read-var .ensures) ∙ c .before .before .before .v .given .1) (omega arith)) ∙ l .inv .4)
-
-returns-4 : tie.Need-returns-4 Inv-loop μ-loop
-unfolding SummedOf
-returns-4 c = (omega arith, c .before .loop .inv .3, c .before .loop .inv .4)
+returns-3 c = (omega arith, c .before .loop .inv .3, c .before .loop .inv .4)
 
 pub run-counts-spec : {M : Type 1} → statement M
 run-counts-spec =
@@ -51,15 +75,14 @@ run-counts-spec =
     μ-loop
     loop-holds
     (λ c κs. search needs)
+    next-counts-requires
     (λ c. search needs)
     (λ c. search needs)
     returns
-    (λ c. search needs)
+    sub-more
+    cast-more
+    sub-more-2
     returns-2
-    (λ c. search needs)
-    (λ c. search needs)
-    (λ c. search needs)
-    returns-3
-    (λ c. search needs)
+    loop-less
     loop-again
-    returns-4)
+    returns-3)

@@ -5,7 +5,18 @@ use Rattle.store.proofs.learn.learn_texts.Statement.{statement}
 use Rattle.store.proofs.learn.learn_texts.Tie as tie
 
 returns : tie.Need-returns
-returns c = rw (c .before .before .keep .ensures) (kept-right (c .before .before .before .before .before .before .before .before .before .pre) 1 _ _ (omega arith) (λ e. c .before .before .before .before .before .before .greatest .ensures (c .before .before .before .before .if1 .taken)) (λ e. absurd (omega (arith, e))) (λ e. absurd (omega (arith, e))))
+returns c =
+    let p = c .before .before .before .before .before .before .before .before .before .pre in
+    rw (c .before .before .keep .ensures)
+    (kept-right (p .1) _ _ _
+    (record {
+      texts = λ e. c .before .before .before .before .before .before .greatest .ensures (c .before .before .before .before .if1 .taken);
+      values = λ e. absurd (omega (arith, e, p .0));
+      counts = λ e. absurd (omega (arith, e, p .0));
+    }))
+
+returns-2 : tie.Need-returns-2
+returns-2 c = c .before .before .before .before .before .pre .1
 
 pub learn-texts-spec : {M : Type 1} → statement M
 learn-texts-spec =
@@ -15,4 +26,4 @@ learn-texts-spec =
     (λ c κs. search needs)
     (λ c. search needs)
     returns
-    (λ c. search needs))
+    returns-2)

@@ -6,7 +6,19 @@ use Rattle.store.proofs.learn.learn_values.Statement.{statement}
 use Rattle.store.proofs.learn.learn_values.Tie as tie
 
 returns : tie.Need-returns
-returns c = rw (c .before .before .keep .ensures) (kept-right (c .before .before .before .before .before .before .before .before .before .before .pre) 2 _ _ (omega arith) (λ e. absurd (omega (arith, e))) (λ e. sym (c .before .before .before .before .before .before .before .skip-items .ensures) ∙ c .before .before .before .before .before .a .given .1) (λ e. absurd (omega (arith, e))))
+returns c =
+    let p = c .before .before .before .before .before .before .before .before .before .before .pre in
+    let e = sym (c .before .before .before .before .before .before .before .skip-items .ensures) ∙ c .before .before .before .before .before .a .given .1 in
+    rw (c .before .before .keep .ensures)
+    (kept-right (p .1) _ _ _
+    (record {
+      texts = λ f. absurd (omega (arith, f, p .0));
+      values = λ f. e;
+      counts = λ f. absurd (omega (arith, f, p .0));
+    }))
+
+returns-2 : tie.Need-returns-2
+returns-2 c = c .before .before .before .before .before .pre .1
 
 pub learn-values-spec : {M : Type 1} → statement M
 learn-values-spec =
@@ -18,4 +30,4 @@ learn-values-spec =
     (λ c. search needs)
     (λ c. search needs)
     returns
-    (λ c. search needs))
+    returns-2)

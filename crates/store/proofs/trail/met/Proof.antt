@@ -2,9 +2,13 @@ use Prim.Native.Nat.{ℕ}
 use mathlib.Core.Path.{_≡_, ap}
 use native.Mathlib.Omega.{arith}
 use Rattle.stretch.specs.declared.Stretch.{Stretch}
+use Rattle.stretch.specs.MarksLaws.{found}
 use borrow.Author.Needs.{needs}
 use Rattle.store.proofs.trail.met.Statement.{statement}
 use Rattle.store.proofs.trail.met.Tie as tie
+
+returns : tie.Need-returns
+returns c = λ h. found (c .before .before .before .before .before .pre) _ _ _ (c .stretch-at .ensures) h
 
 returns-2 : tie.Need-returns-2
 returns-2 c = λ h. absurd (let z : _≡_ {A = ℕ} _ 0 = ap (λ (x : Stretch). x .count) (c .nothing-at .ensures) in omega (arith, h, z))
@@ -14,6 +18,6 @@ met-spec =
     tie.close
     (tie.spec
     (λ c κs. search needs)
-    (λ c. search needs)
+    returns
     (λ c κs. search needs)
     returns-2)
