@@ -16,6 +16,7 @@ mod read;
 mod settle;
 mod step;
 mod trail;
+mod tread;
 mod values;
 mod walking;
 mod wide;

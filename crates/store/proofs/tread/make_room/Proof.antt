@@ -1,8 +1,8 @@
 use native.Mathlib.Omega.{arith}
 use Rattle.stretch.specs.MarksLaws.{emptied, kept-right}
 use borrow.Author.Needs.{needs}
-use Rattle.store.proofs.trail.make_room.Statement.{statement}
-use Rattle.store.proofs.trail.make_room.Tie as tie
+use Rattle.store.proofs.tread.make_room.Statement.{statement}
+use Rattle.store.proofs.tread.make_room.Tie as tie
 
 returns : tie.Need-returns
 returns c = c .before .before .before .before .before .pre

@@ -1,6 +1,6 @@
 use borrow.Author.Needs.{needs}
-use Rattle.store.proofs.trail.near_on.Statement.{statement}
-use Rattle.store.proofs.trail.near_on.Tie as tie
+use Rattle.store.proofs.tread.near_on.Statement.{statement}
+use Rattle.store.proofs.tread.near_on.Tie as tie
 
 make-room-requires : tie.Need-make-room-requires
 make-room-requires c κs = c .before .before .before .before .before .before .before .before .pre

@@ -1,7 +1,7 @@
 use native.Mathlib.Omega.{arith}
 use borrow.Author.Needs.{needs}
-use Rattle.store.proofs.trail.far_on.Statement.{statement}
-use Rattle.store.proofs.trail.far_on.Tie as tie
+use Rattle.store.proofs.tread.far_on.Statement.{statement}
+use Rattle.store.proofs.tread.far_on.Tie as tie
 
 div-is-far-start : tie.Need-div-is-far-start
 div-is-far-start c = omega (arith, c .near-items .ensures)

@@ -1,6 +1,6 @@
 use borrow.Author.Needs.{needs}
-use Rattle.store.proofs.trail.tread.Statement.{statement}
-use Rattle.store.proofs.trail.tread.Tie as tie
+use Rattle.store.proofs.tread.tread.Statement.{statement}
+use Rattle.store.proofs.tread.tread.Tie as tie
 
 near-on-requires : tie.Need-near-on-requires
 near-on-requires c κs = c .before .before .before .before .before .before .pre
