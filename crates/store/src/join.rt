@@ -10,8 +10,7 @@ use stretch::FAR;
 use stretch::Stretch;
 use stretch::TEXTS;
 use stretch::VALUES;
-ghost use mathlib.Core.Path.{_≡_};
-ghost use Prim.Native.Nat.{_+_, _<_, _≤_, _^_, _%_};
+ghost use Prim.Native.Nat.{_+_, _<_, _^_, _%_};
 ghost use Rattle.stretch.specs.Stretch.{Texts, Values, Counts, StretchOf, Stretches};
 
 // Two stretches as one, the first from `at` on, the second from where it ends; the first alone, where that

@@ -7,7 +7,7 @@ use key::Kind;
 use key::Sized;
 use stretch::Stretch;
 ghost use mathlib.Core.Path.{_≡_};
-ghost use Prim.Native.Nat.{_<_, _≤_, _%_};
+ghost use Prim.Native.Nat.{_<_, _%_};
 ghost use Rattle.stretch.specs.Stretch.{Texts, Stretches};
 
 // `n` text keys from `at` on, with the place of one that none of them is greater than; no items where

@@ -16,7 +16,7 @@ use stretch::Keys;
 use stretch::Passing;
 use stretch::Stretch;
 use stretch::TEXTS;
-ghost use Prim.Native.Nat.{_+_, _<_, _≤_, _^_};
+ghost use Prim.Native.Nat.{_+_, _<_, _≤_};
 ghost use mathlib.Core.Bool.{true, false};
 ghost use mathlib.Core.Path.{_≡_};
 ghost use Rattle.key.specs.Key.{keyOf};

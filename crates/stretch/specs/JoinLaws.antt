@@ -19,7 +19,6 @@ use Rattle.key.specs.Key.{Key, keyOf, compareKeys}
 use Rattle.item.specs.declared.Form.{Form}
 use Rattle.item.specs.declared.Form.the-variants.{Text, Bytes}
 use Rattle.item.specs.declared.Skip.the-variants.{Past}
-use Rattle.item.specs.declared.Counted.the-variants.{Sum}
 use Rattle.item.specs.Step.{bad}
 use Rattle.item.specs.Item.{itemAt, items, skipped}
 use Rattle.item.specs.CountLaws.{countedFrom, counted-from, counted-none}

@@ -6,7 +6,7 @@
 --   fits i s, placeFor i s    whether words can hold the stretch, and which
 --   keptIn ws form i s        the words with the stretch, where there is room
 use Prim.Native.Nat.{ℕ, _+_, _*_, _-_, _/_, _%_}
-use mathlib.Core.Bool.{Bool, true, false, cond, _&&_}
+use mathlib.Core.Bool.{Bool, cond, _&&_}
 use mathlib.Core.List.{List}
 use lib.Dec.{eqb, leb, ltb}
 use lib.ListN.{length, getD}

@@ -1,7 +1,7 @@
 -- Laws of stretches in words: what is found there is right, and what is kept stays right.
 --
 --   Fits i s    what it takes for words to hold the stretch s from place i on
-use Prim.Native.Nat.{ℕ, _+_, _*_, _-_, _/_, _%_, _^_, _<_, _≤_}
+use Prim.Native.Nat.{ℕ, _+_, _-_, _%_, _<_, _≤_}
 use mathlib.Core.Path.{_≡_, refl, sym, _∙_, ap}
 use mathlib.Core.Bool.{Bool, true, false, cond, _&&_}
 use mathlib.Core.List.{List}
@@ -9,7 +9,6 @@ use native.Mathlib.Omega.{arith}
 use borrow.Author.Tests.{ltb-true, leb-true}
 use lib.Dec.{leb, ltb}
 use lib.ListN.{length, replicate}
-use Rattle.page.specs.declared.Place.{Place}
 use Rattle.memory.specs.declared.Recalled.{Recalled}
 use Rattle.memory.specs.declared.Recalled.the-variants.{At, Free, Full}
 use Rattle.memory.specs.Words.{recalledAt, rememberedIn}
