@@ -39,6 +39,13 @@ fn eight_printable(s: &[u8], i: usize) -> bool
     four_printable(s, i) & four_printable(s, i + 4)
 }
 
+fn sixteen_printable(s: &[u8], i: usize) -> bool
+    requires { ⌜ i + 16 ≤ length (now s) ⌝ }
+    ensures { λ r. ⌜ r ≡ every isPrintable (take 16 (drop i (now (s .entry)))) ⌝ }
+{
+    eight_printable(s, i) & eight_printable(s, i + 8)
+}
+
 // All bytes of a text, one by one.
 fn each_printable(s: &[u8]) -> bool
     ensures { λ r. ⌜ r ≡ every isPrintable (now (s .entry)) ⌝ }
@@ -64,23 +71,34 @@ fn few_printable(s: &[u8]) -> bool
     four_printable(s, 0) & four_printable(s, s.len() - 4)
 }
 
-// Whether all bytes of `s` are 32 to 126. Eight at a time, and the last eight, some of which may have
-// been tested before.
-pub fn all_printable(s: &[u8]) -> bool
+// All bytes of a text of fewer than sixteen.
+fn short_printable(s: &[u8]) -> bool
+    requires { ⌜ length (now s) < 16 ⌝ }
     ensures { λ r. ⌜ r ≡ every isPrintable (now (s .entry)) ⌝ }
 {
     if s.len() < 8 {
         return few_printable(s);
     }
-    let last = s.len() - 8;
+    eight_printable(s, 0) & eight_printable(s, s.len() - 8)
+}
+
+// Whether all bytes of `s` are 32 to 126. Sixteen at a time, and the last sixteen, some of which may have
+// been tested before.
+pub fn all_printable(s: &[u8]) -> bool
+    ensures { λ r. ⌜ r ≡ every isPrintable (now (s .entry)) ⌝ }
+{
+    if s.len() < 16 {
+        return short_printable(s);
+    }
+    let last = s.len() - 16;
     let mut i = 0;
     while i < last {
-        if eight_printable(s, i) {} else {
+        if sixteen_printable(s, i) {} else {
             return false;
         }
-        i += 8;
+        i += 16;
     }
-    eight_printable(s, last)
+    sixteen_printable(s, last)
 }
 
 // Whether `s` and `t` are the same bytes.

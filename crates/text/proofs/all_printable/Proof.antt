@@ -24,18 +24,18 @@ loop-holds c = refl
 returns-2 : tie.Need-returns-2 Inv-loop μ-loop
 returns-2 c =
     let s = now (c .before .before .before .before .before .before .args .s) in
-    sym (every-not isPrintable 8 s (c .before .before .before .loop .i) (sym (c .before .eight-printable .ensures) ∙ c .if2 .left))
+    sym (every-not isPrintable 16 s (c .before .before .before .loop .i) (sym (c .before .sixteen-printable .ensures) ∙ c .if2 .left))
 
 loop-again : tie.Need-loop-again Inv-loop μ-loop
 loop-again c =
     let s = now (c .before .before .before .before .before .before .args .s) in
-    rw (every-take isPrintable (c .before .before .before .loop .i) 8 s, c .before .before .before .loop .inv, ← c .before .eight-printable .ensures) (c .if2 .taken)
+    rw (every-take isPrintable (c .before .before .before .loop .i) 16 s, c .before .before .before .loop .inv, ← c .before .sixteen-printable .ensures) (c .if2 .taken)
 
 returns-3 : tie.Need-returns-3 Inv-loop μ-loop
 returns-3 c =
     let s = now (c .before .before .before .before .before .args .s) in
-    let whole = take-all 8 (drop (length s - 8) s) (omega (arith, length-drop (length s - 8) s)) in
-    c .eight-printable2 .ensures ∙ rw whole (every-last isPrintable (length s - 8) s (c .before .before .loop .i) (c .before .before .loop .inv) (omega arith))
+    let whole = take-all 16 (drop (length s - 16) s) (omega (arith, length-drop (length s - 16) s)) in
+    c .sixteen-printable2 .ensures ∙ rw whole (every-last isPrintable (length s - 16) s (c .before .before .loop .i) (c .before .before .loop .inv) (omega arith))
 
 pub all-printable-spec : {M : Type 1} → statement M
 all-printable-spec =
