@@ -8,10 +8,15 @@ use crate::model::image::BLOCK;
 use crate::model::line::{CHUNK_HEADER, FOOTER};
 use crate::model::position::{check_value, Position};
 
-/// Ids of four digits, so that the entries of chunks sort as their numbers do.
-pub const FIRST_ID: u64 = 0x1000;
+/// Ids of four digits, so that the entries of chunks sort as their numbers do. The high byte is a
+/// letter's, which `full` needs in check values.
+pub const FIRST_ID: u64 = 0x4000;
 /// The newline's place in a chunk header of the known fields alone.
 const NEWLINE: u64 = 103;
+/// The first field of a line that reads as text keys: below every key that is asked for, without the
+/// first byte, which is a length. The newline comes after so many bytes.
+const KEY_FIELD: &str = "pages";
+const KEY_NEWLINE: u64 = 1 + KEY_FIELD.as_bytes()[0] as u64;
 
 /// What stands in a page after its type byte.
 pub struct Body {
@@ -70,11 +75,17 @@ pub struct Draft {
     chunks: Vec<Chunk>,
     /// Whether chunk header lines are filled with unknown names.
     long_lines: bool,
+    /// Whether the lines of chunks read as text keys.
+    key_lines: bool,
 }
 
 impl Draft {
     pub fn new(long_lines: bool) -> Draft {
-        Draft { bytes: vec![0; 2 * BLOCK as usize], chunks: Vec::new(), long_lines }
+        Draft { bytes: vec![0; 2 * BLOCK as usize], long_lines, ..Draft::default() }
+    }
+
+    pub fn with_key_lines() -> Draft {
+        Draft { key_lines: true, ..Draft::new(false) }
     }
 
     /// Adds a chunk of one block at the image's end, where it can grow: its number.
@@ -101,6 +112,8 @@ impl Draft {
     fn newline(&self) -> u64 {
         if self.long_lines {
             CHUNK_HEADER - 1
+        } else if self.key_lines {
+            KEY_NEWLINE
         } else {
             NEWLINE
         }
@@ -136,6 +149,12 @@ impl Draft {
     /// Writes bytes where there is something already.
     pub fn write_over(&mut self, chunk: usize, offset: u64, bytes: &[u8]) {
         self.write(self.chunks[chunk].block * BLOCK + offset, bytes);
+    }
+
+    /// The bytes of a chunk from an offset to another.
+    pub fn written(&self, chunk: usize, from: u64, to: u64) -> &[u8] {
+        let start = self.chunks[chunk].block * BLOCK;
+        &self.bytes[(start + from) as usize..(start + to) as usize]
     }
 
     /// Where the next page goes.
@@ -204,7 +223,7 @@ impl Draft {
     }
 
     /// A chunk's header and footer lines.
-    fn write_lines(&mut self, number: usize, root: u64) {
+    pub fn write_lines(&mut self, number: usize, root: u64) {
         let Chunk { id, version, block, len, next, .. } = self.chunks[number];
         let named = [("chunk", id), ("block", block), ("version", version)];
         let rest = [("len", len), ("next", next), ("pages", 1), ("root", root)];
@@ -215,13 +234,30 @@ impl Draft {
         }
         header.newline_from = self.newline() as usize;
         let footer = LinePlan::new(&named, Sum::Xor(0));
-        self.write(block * BLOCK, &header.bytes().0);
-        self.write((block + len) * BLOCK - FOOTER, &footer.bytes().0);
+        let [header, footer] = [header, footer].map(|line| self.line_bytes(line));
+        self.write(block * BLOCK, &header);
+        self.write((block + len) * BLOCK - FOOTER, &footer);
+    }
+
+    fn line_bytes(&self, line: LinePlan) -> Vec<u8> {
+        if self.key_lines {
+            two_keys(line)
+        } else {
+            line.bytes().0
+        }
     }
 
     fn write(&mut self, at: u64, bytes: &[u8]) {
         self.bytes[at as usize..at as usize + bytes.len()].copy_from_slice(bytes);
     }
+}
+
+/// A line's bytes as two text keys: its first byte is the length of one, the newline of the next.
+fn two_keys(mut line: LinePlan) -> Vec<u8> {
+    line.remove(KEY_FIELD);
+    line.fields.insert(0, (KEY_FIELD.to_string(), "1".to_string()));
+    line.newline_from = KEY_NEWLINE as usize;
+    [line.bytes().0, vec![b' '; b'\n' as usize]].concat()
 }
 
 /// The position of a page, by its chunk's number.

@@ -15,6 +15,7 @@
 //! | `each`     | such pages that are nearly as long as the image |
 //! | `aligned`  | such pages with text keys that never meet |
 //! | `spread`   | such pages whose keys lie all over the upper half of the image |
+//! | `full`     | such pages whose keys lie nearly all over the image, and chunks among the keys |
 //! | `layers`   | such pages as in `each`, and chunks behind them that need others |
 //! | `count`, `ask` | a reader that counts what a call needs |
 //! | `ways`, `runs` | what a lookup needs of a page, and a fast way to judge wide ones |
@@ -31,6 +32,7 @@ pub mod count;
 mod deep;
 mod draft;
 mod each;
+mod full;
 mod layers;
 mod many;
 mod metadata;
@@ -109,7 +111,7 @@ const fn longest(name: &'static str, maker: Maker) -> Named {
     Named { sizes: &[1, 4, 16, 40], short: 1024, ..named(name, maker) }
 }
 
-pub const ALL: [Named; 22] = [
+pub const ALL: [Named; 23] = [
     named("nested", nested::nested),
     slow("nested-lines", nested::long_lines),
     slow("nested-values", nested::long_values),
@@ -132,6 +134,7 @@ pub const ALL: [Named; 22] = [
     growing_most("overlap-each", each::each),
     growing_most("overlap-aligned", aligned::aligned),
     growing_most("overlap-spread", spread::spread),
+    growing_most("overlap-full", full::full),
 ];
 
 impl Worst {

@@ -15,7 +15,7 @@ use crate::family::standard::METADATA_PLAN;
 use crate::model::image::BLOCK;
 use crate::model::line::FOOTER;
 use crate::model::page::DEEPEST;
-use crate::model::position::UNBOUNDED;
+use crate::model::position::{EMPTY, UNBOUNDED};
 
 /// The pages of a path: the root is above it, and a leaf below.
 pub const PATH: usize = DEEPEST as usize - 2;
@@ -101,10 +101,7 @@ impl Layout {
         let forces = scattered(&mut draft, &numbers, NEWEST, clear_key);
         let leaf = draft.metadata(NEWEST, &numbers, forces);
         let paths = self.paths(&mut draft, leaf);
-        let chunk_keys = numbers.iter().map(|&number| draft.entry(number).0);
-        let mut separators: Vec<Vec<u8>> = chunk_keys.skip(1).collect();
-        separators.push(names(forces)[0].0.clone());
-        let root = draft.put(NEWEST, &Body::inner(METADATA_PLAN, &paths, &separators));
+        let root = put_root(&mut draft, &numbers, &paths);
         let image = draft.image(NEWEST, root);
         let (chunks, last) = (numbers.len() as u64, numbers.len() - 1);
         let examined = format!("report {chunks} {} 2", chunks + 1);
@@ -116,6 +113,14 @@ impl Layout {
         assert_eq!(self.pages.len(), pages(self.blocks), "the pages of all paths");
         self.pages.chunks(PATH).map(|path| (write_path(draft, path, leaf), 1)).collect()
     }
+}
+
+/// The metadata's root: a child for each chunk, and one for the map's name and root.
+pub fn put_root(draft: &mut Draft, chunks: &[usize], children: &[(u64, u64)]) -> u64 {
+    let chunk_keys = chunks.iter().map(|&chunk| draft.entry(chunk).0);
+    let mut separators: Vec<Vec<u8>> = chunk_keys.skip(1).collect();
+    separators.push(names(EMPTY)[0].0.clone());
+    draft.put(NEWEST, &Body::inner(METADATA_PLAN, children, &separators))
 }
 
 /// Writes a path of pages, from the last to the first.
