@@ -1,23 +1,26 @@
 // A pass over recorded counts.
-use super::trail::Trail;
-use super::trail::landed;
-use super::trail::leapt;
-use super::trail::met_far;
-use super::trail::met_near;
-use super::trail::trail_at;
-use super::tread::room;
-use super::tread::stop_of;
-use super::tread::tread;
+use super::join::stretch_from;
+use super::trail::after_leap;
+use super::trail::following;
+use super::trail::is_far_start;
+use super::trail::is_near;
+use super::trail::keep_near;
+use super::trail::near_end;
+use super::trail::near_most;
+use super::trail::next_start;
+use super::trail::start_after;
 use item::COUNT_LIMIT;
 use item::Counted;
 use numeral::Numeral;
 use stretch::COUNTS;
+use stretch::FAR;
 use stretch::Stretch;
 ghost use mathlib.Core.Path.{_≡_};
 ghost use mathlib.Core.Bool.{true};
-ghost use Prim.Native.Nat.{_+_, _<_, _≤_, _^_};
+ghost use Prim.Native.Nat.{_+_, _<_, _≤_, _^_, _%_};
 ghost use Rattle.item.specs.Item.{counted};
-ghost use Rattle.stretch.specs.Stretch.{Counts, Stretches};
+ghost use Rattle.item.specs.CountLaws.{countedFrom};
+ghost use Rattle.stretch.specs.Stretch.{Stretches};
 ghost use Rattle.store.specs.Passing.{SummedOf, SummedUpTo};
 
 // Whether a stretch can be passed at once: it is no longer than what is left, and keeps the sum below
@@ -40,7 +43,7 @@ fn can_pass(s: Stretch, left: u64, sum: u64) -> bool
     false
 }
 
-// Counts passed one by one: how many are left, the sum so far, and the place after those passed.
+// Counts that were passed: how many are left, the sum so far, and the place after those passed.
 pub enum Summed {
     To { left: u64, sum: u64, next: usize },
     Stuck,
@@ -90,8 +93,17 @@ fn nearer(more: u32, j: usize, stop: usize) -> u32
     more
 }
 
-// Of `n` counts from `i` on, `most` one by one, or up to the place `stop`; `total` is the sum before.
-fn run_counts(image: &[u8], n: u64, i: usize, total: u64, most: u32, stop: usize) -> Summed
+// Of `n` counts from `i` on, `most`, one by one or eight at a time, or up to where a stretch begins or past the
+// place `end`; `total` is the sum before.
+fn run_counts(
+    image: &[u8],
+    marks: &[u64],
+    n: u64,
+    i: usize,
+    total: u64,
+    most: u32,
+    end: usize,
+) -> Summed
     requires { ⌜ (0 < most) × (most ≤ n) × (total < 2 ^ 48) ⌝ }
     ensures { λ r. ⌜ SummedOf (now (image .entry)) n i total r ⌝ }
 {
@@ -99,6 +111,7 @@ fn run_counts(image: &[u8], n: u64, i: usize, total: u64, most: u32, stop: usize
     let mut j = i;
     let mut sum = total;
     let mut more = most;
+    let mut stop = start_after(marks, COUNTS, i);
     while 0 < more {
         let near = nearer(more, j, stop);
         let u = next_counts(image, left, j, sum, near);
@@ -114,45 +127,98 @@ fn run_counts(image: &[u8], n: u64, i: usize, total: u64, most: u32, stop: usize
         left = rest;
         sum = s;
         j = next;
-        if stop <= j {
+        if stop < j {
+            stop = next_start(marks, COUNTS, j);
+        }
+        if stop == j || end <= j {
             return Summed::To { left, sum, next: j };
         }
     }
     Summed::To { left, sum, next: j }
 }
 
-// Some of `n` counts more: by a stretch, if it can be passed, or `most` one by one.
-fn some_counts(
-    image: &[u8],
-    s: Stretch,
-    n: u64,
-    i: usize,
-    total: u64,
-    most: u32,
-    stop: usize,
-) -> Summed
-    requires { ⌜ (0 < most) × (most ≤ n) × (total < 2 ^ 48) × (0 < s .count → Counts (now image) i (s .count) (s .next) (s .more)) ⌝ }
-    ensures { λ r. ⌜ SummedOf (now (image .entry)) n i total r ⌝ }
-{
-    if can_pass(s, n, total) {
-        return Summed::To {
-            left: n - s.count as u64,
-            sum: total + s.more,
-            next: s.next,
-        };
-    }
-    run_counts(image, n, i, total, most, stop)
+// A pass over counts that has come to place `i`, with `left` to go and their sum so far; `start`: a far
+// stretch begins there.
+pub struct Sums {
+    pub left: u64,
+    pub sum: u64,
+    pub i: usize,
+    pub start: bool,
 }
 
-// How many of `left` counts may be passed one by one.
-fn counts_room(marks: &[u64], t: Trail, s: Stretch, left: u64) -> u32
+// The pass after all stretches of a form from where it is that can be passed at once; near ones, up to
+// where a far one begins.
+fn leap_counts(image: &[u8], marks: &[u64], form: u32, p: Sums) -> Sums
+    requires { ⌜ (form % 4 ≡ 3) × (p .sum < 2 ^ 48) × Stretches (now image) (now marks) ⌝ }
+    ensures { λ r. ⌜ (r .left ≤ p .left) × (r .sum < 2 ^ 48) × (countedFrom (now (image .entry)) (r .left) (r .i) (r .sum) ≡ countedFrom (now (image .entry)) (p .left) (p .i) (p .sum)) ⌝ }
+{
+    let mut left = p.left;
+    let mut sum = p.sum;
+    let mut i = p.i;
+    let mut index = stretch::seek(marks, form, i);
+    while 0 < left {
+        let s = stretch::stretch_at(marks, index, form, i);
+        if can_pass(s, left, sum) {} else {
+            return Sums {
+                left,
+                sum,
+                i,
+                start: false,
+            };
+        }
+        let start = form < FAR && is_far_start(i, s.count, s.next);
+        left -= s.count as u64;
+        sum += s.more;
+        i = s.next;
+        if start {
+            return Sums {
+                left,
+                sum,
+                i,
+                start,
+            };
+        }
+        index = following(marks, index, form, i);
+    }
+    Sums {
+        left,
+        sum,
+        i,
+        start: false,
+    }
+}
+
+// How many of `left` counts are read at most.
+fn most_counts(image: &[u8], marks: &[u64], left: u64) -> u32
     requires { ⌜ 0 < left ⌝ }
     ensures { λ r. ⌜ (0 < r) × (r ≤ left) ⌝ }
 {
     if left < 4294967296 {
-        return room(marks, t, COUNTS, s, left as u32);
+        return near_most(image, marks, COUNTS, left as u32);
     }
-    room(marks, t, COUNTS, s, 4294967295)
+    near_most(image, marks, COUNTS, 4294967295)
+}
+
+// Remembers `n` counts from `at` on, up to `end`, where they make a near stretch.
+fn keep_counts(image: &[u8], marks: &mut [u64], n: u64, at: usize, end: usize)
+    requires { ⌜ Stretches (now image) (now marks) ⌝ }
+    ensures { λ _. ⌜ Stretches (now (image .entry)) (now (marks .exit)) ⌝ }
+{
+    let known = stretch_from(image, marks, COUNTS, at);
+    if 0 < known.count || 65535 < n {
+        return;
+    }
+    if is_near(image, marks, COUNTS, at, n as u32, end) {
+        let a = item::sum_counts(image, n, at);
+        if let Counted::Sum { total, next } = a {
+            let s = Stretch {
+                count: n as u32,
+                next,
+                more: total,
+            };
+            keep_near(image, marks, COUNTS, at, s);
+        }
+    }
 }
 
 // The sum of `n` recorded counts, and the place after them.
@@ -160,22 +226,23 @@ pub(crate) fn pass_counts(image: &[u8], marks: &mut [u64], n: u64, at: usize) ->
     requires { ⌜ Stretches (now image) (now marks) ⌝ }
     ensures { λ r. ⌜ Stretches (now (image .entry)) (now (marks .exit)) × (r ≡ counted (now (image .entry)) n at) ⌝ }
 {
-    let mut left = n;
-    let mut i = at;
-    let mut sum: u64 = 0;
-    let mut t = trail_at(marks, COUNTS, at);
-    while 0 < left {
-        let f = met_far(image, marks, t, COUNTS, i);
-        if can_pass(f, left, sum) {
-            i = f.next;
-            left -= f.count as u64;
-            sum += f.more;
-            t = leapt(marks, t, COUNTS, i);
+    let mut p = Sums {
+        left: n,
+        sum: 0,
+        i: at,
+        start: false,
+    };
+    let mut begun = stretch::NOWHERE;
+    while 0 < p.left {
+        let far = leap_counts(image, marks, COUNTS + FAR, p);
+        let near = leap_counts(image, marks, COUNTS, far);
+        if near.left < p.left {
+            begun = after_leap(image, marks, COUNTS, begun, p.i, far.i, near.i, near.start);
+            p = near;
         } else {
-            t = landed(marks, t, COUNTS, i);
-            let s = met_near(image, marks, t, COUNTS, i);
-            let most = counts_room(marks, t, s, left);
-            let r = some_counts(image, s, left, i, sum, most, stop_of(t, s));
+            let most = most_counts(image, marks, p.left);
+            let end = near_end(image, marks, COUNTS, p.i);
+            let r = run_counts(image, marks, p.left, p.i, p.sum, most, end);
             let Summed::To {
                 left: rest,
                 sum: total,
@@ -184,15 +251,18 @@ pub(crate) fn pass_counts(image: &[u8], marks: &mut [u64], n: u64, at: usize) ->
             else {
                 return Counted::Stuck;
             };
-            let count = ((left - rest) % 4294967296) as u32;
-            t = tread(image, marks, t, COUNTS, s, count, i, next, rest == 0);
-            i = next;
-            sum = total;
-            left = rest;
+            keep_counts(image, marks, p.left - rest, p.i, next);
+            begun = stretch::NOWHERE;
+            p = Sums {
+                left: rest,
+                sum: total,
+                i: next,
+                start: false,
+            };
         }
     }
     Counted::Sum {
-        total: sum,
-        next: i,
+        total: p.sum,
+        next: p.i,
     }
 }

@@ -1,118 +1,95 @@
-// Stretches that are read to be remembered.
-use content::Probe;
-use item::Counted;
+// Text keys that are read anew.
+use super::join::is_less;
+use super::trail::next_start;
 use item::Form;
-use item::Skip;
 use key::Kind;
 use key::Sized;
 use stretch::Stretch;
+use stretch::TEXTS;
 ghost use mathlib.Core.Path.{_≡_};
-ghost use Prim.Native.Nat.{_<_, _%_};
-ghost use Rattle.stretch.specs.Stretch.{Texts, Stretches};
+ghost use Prim.Native.Nat.{_+_, _<_, _≤_, _^_};
+ghost use Rattle.item.specs.Item.{itemAt};
+ghost use Rattle.stretch.specs.Stretch.{Texts};
+ghost use Rattle.store.specs.Passing.{GrownOf};
 
-// `n` text keys from `at` on, with the place of one that none of them is greater than; no items where
-// one can't be read.
-fn greatest(image: &[u8], n: u32, at: usize) -> Stretch
-    ensures { λ r. ⌜ (0 < r .count → Texts (now (image .entry)) at (r .count) (r .next) (r .more)) ⌝ }
+// A stretch of text keys as far as it is read, and the bytes of its greatest key.
+pub struct Grown {
+    pub s: Stretch,
+    pub from: usize,
+    pub to: usize,
+}
+
+// With one key more, whose bytes are those from `key` up to `next`.
+fn one_more(image: &[u8], at: usize, g: Grown, key: usize, len: usize, next: usize) -> Grown
+    requires { ⌜ GrownOf (now image) at g × (g .s .count + 1 < 2 ^ 32) × (itemAt (now image) Form.Text (g .s .next) ≡ Sized.At key len next) ⌝ }
+    ensures { λ r. ⌜ GrownOf (now (image .entry)) at r × (r .s .count ≡ g .s .count + 1) ⌝ }
+{
+    let s = g.s;
+    let from = g.from;
+    let to = g.to;
+    let o = key::compare(Kind::Text, &image[from..to], &image[key..next]);
+    if is_less(o) {
+        let t = Stretch {
+            count: s.count + 1,
+            next,
+            more: s.next as u64,
+        };
+        return Grown {
+            s: t,
+            from: key,
+            to: next,
+        };
+    }
+    let t = Stretch {
+        count: s.count + 1,
+        next,
+        more: s.more,
+    };
+    Grown { s: t, from, to }
+}
+
+// The key at `at` alone.
+fn first_key(image: &[u8], at: usize, key: usize, len: usize, next: usize) -> Grown
+    requires { ⌜ itemAt (now image) Form.Text at ≡ Sized.At key len next ⌝ }
+    ensures { λ r. ⌜ GrownOf (now (image .entry)) at r × (r .s .count ≡ 1) ⌝ }
+{
+    let s = Stretch {
+        count: 1,
+        next,
+        more: at as u64,
+    };
+    Grown {
+        s,
+        from: key,
+        to: next,
+    }
+}
+
+// `n` text keys from `at` on, with the place of one that none of them is greater than; fewer, up to where
+// a stretch begins, or past the place `end`, or to one that can't be read.
+pub(crate) fn read_texts(image: &[u8], marks: &[u64], n: u32, at: usize, end: usize) -> Stretch
+    requires { ⌜ 0 < n ⌝ }
+    ensures { λ r. ⌜ (r .count ≤ n) × (0 < r .count → Texts (now (image .entry)) at (r .count) (r .next) (r .more)) × (r .count ≡ 0 → itemAt (now (image .entry)) Form.Text at ≡ Sized.Bad) ⌝ }
 {
     let it = item::item_at(image, Form::Text, at);
-    let Sized::At {
-        at: _,
-        len: _,
-        next: first,
-    } = it
-    else {
+    let Sized::At { at: key, len, next } = it else {
         return stretch::nothing_at(at);
     };
-    let mut done: u32 = 1;
-    let mut i = first;
-    let mut top = at;
-    while done < n {
-        let it = item::item_at(image, Form::Text, i);
-        let Sized::At {
-            at: b,
-            len: _,
-            next,
-        } = it
-        else {
-            return stretch::nothing_at(at);
-        };
-        let p = content::probe_key(image, Kind::Text, top, &image[b..next]);
-        if let Probe::UpTo { next: _, same: _ } = p {
-            top = i;
+    let mut g = first_key(image, at, key, len, next);
+    let mut stop = next_start(marks, TEXTS, next);
+    while g.s.count < n {
+        let i = g.s.next;
+        if stop < i {
+            stop = next_start(marks, TEXTS, i);
         }
-        i = next;
-        done += 1;
-    }
-    Stretch {
-        count: done,
-        next: i,
-        more: top as u64,
-    }
-}
-
-fn learn_texts(image: &[u8], marks: &mut [u64], form: u32, n: u32, at: usize)
-    requires { ⌜ (form % 4 ≡ 1) × Stretches (now image) (now marks) ⌝ }
-    ensures { λ _. ⌜ Stretches (now (image .entry)) (now (marks .exit)) ⌝ }
-{
-    let s = greatest(image, n, at);
-    if 0 < s.count {
-        stretch::keep(marks, form, at, s);
-    }
-}
-
-fn learn_values(image: &[u8], marks: &mut [u64], form: u32, n: u32, at: usize)
-    requires { ⌜ (form % 4 ≡ 2) × Stretches (now image) (now marks) ⌝ }
-    ensures { λ _. ⌜ Stretches (now (image .entry)) (now (marks .exit)) ⌝ }
-{
-    let a = item::skip_items(image, Form::Bytes, n as u64, at);
-    if let Skip::Past(next) = a {
-        let s = Stretch {
-            count: n,
-            next,
-            more: 0,
+        if stop == i || end <= i {
+            return g.s;
+        }
+        let it = item::item_at(image, Form::Text, i);
+        let Sized::At { at: key, len, next } = it else {
+            return g.s;
         };
-        stretch::keep(marks, form, at, s);
+        g = one_more(image, at, g, key, len, next);
     }
-}
-
-fn learn_counts(image: &[u8], marks: &mut [u64], form: u32, n: u32, at: usize)
-    requires { ⌜ (form % 4 ≡ 3) × Stretches (now image) (now marks) ⌝ }
-    ensures { λ _. ⌜ Stretches (now (image .entry)) (now (marks .exit)) ⌝ }
-{
-    let a = item::sum_counts(image, n as u64, at);
-    if let Counted::Sum { total, next } = a {
-        let s = Stretch {
-            count: n,
-            next,
-            more: total,
-        };
-        stretch::keep(marks, form, at, s);
-    }
-}
-
-// Remembers `n` items of a form from `at` on, where they can be read and there is room.
-pub(crate) fn learn(image: &[u8], marks: &mut [u64], form: u32, n: u32, at: usize)
-    requires { ⌜ Stretches (now image) (now marks) ⌝ }
-    ensures { λ _. ⌜ Stretches (now (image .entry)) (now (marks .exit)) ⌝ }
-{
-    let kind = form % 4;
-    if is_full(marks) {
-        return;
-    }
-    if kind == stretch::TEXTS {
-        learn_texts(image, marks, form, n, at);
-    } else if kind == stretch::VALUES {
-        learn_values(image, marks, form, n, at);
-    } else if kind == stretch::COUNTS {
-        learn_counts(image, marks, form, n, at);
-    }
-}
-
-pub(crate) fn is_full(marks: &[u64]) -> bool {
-    let n = marks.len() / 2;
-    if n == 0 {
-        return true;
-    }
-    marks[2 * n - 2] != 0
+    g.s
 }

@@ -16,7 +16,6 @@ mod read;
 mod settle;
 mod step;
 mod trail;
-mod tread;
 mod values;
 mod walking;
 mod wide;

@@ -1,33 +1,58 @@
 // A pass over text keys with a lookup's key.
+use super::learn::read_texts;
 use super::part::met_texts;
-use super::trail::landed;
-use super::trail::leapt;
-use super::trail::met_far;
-use super::trail::trail_at;
-use super::tread::room;
-use super::tread::stop_of;
-use super::tread::tread;
-use content::Probe;
+use super::trail::after_leap;
+use super::trail::following;
+use super::trail::is_far_start;
+use super::trail::keep_near;
+use super::trail::near_end;
+use super::trail::near_most;
 use item::Form;
 use key::Kind;
 use key::Sized;
 use order::Order;
+use stretch::FAR;
 use stretch::Keys;
 use stretch::Passing;
 use stretch::Stretch;
 use stretch::TEXTS;
-ghost use Prim.Native.Nat.{_+_, _<_, _≤_};
+ghost use Prim.Native.Nat.{_+_, _<_, _≤_, _%_};
 ghost use mathlib.Core.Bool.{true, false};
 ghost use mathlib.Core.Path.{_≡_};
 ghost use Rattle.key.specs.Key.{keyOf};
 ghost use Rattle.item.specs.Item.{itemAt};
 ghost use Rattle.stretch.specs.Stretch.{Texts, Stretches};
-ghost use Rattle.stretch.specs.Led.{keysFrom};
-ghost use Rattle.store.specs.Passing.{Near, Jumped, onKey, metKey, afterKey, TurnedOnce, Ran, Turned};
+ghost use Rattle.stretch.specs.Led.{passes, keysFrom};
+ghost use Rattle.store.specs.Passing.{Near, Jumped, AllPass, onKey, metKey, afterKey, ledTo, Gone, TurnedOnce, Ran, Turned};
 
 pub enum Turn {
     On(Passing),
     Stuck,
+}
+
+// Whether a lookup passes a key that compares so with its own: a leaf's lookup stops at an equal one.
+fn is_passed(o: Order, leaf: bool) -> bool
+    ensures { λ r. ⌜ r ≡ passes leaf o ⌝ }
+{
+    match o {
+        Order::Less => true,
+        Order::Equal => !leaf,
+        Order::Greater => false,
+    }
+}
+
+// Whether a lookup passes all keys of a stretch from `i` on, by the greatest. It was read before, so that its
+// length is enough.
+fn passes_all(image: &[u8], i: usize, s: Stretch, key: &[u8], leaf: bool) -> bool
+    requires { ⌜ Texts (now image) i (s .count) (s .next) (s .more) ⌝ }
+    ensures { λ r. ⌜ (r ≡ true → AllPass (now (image .entry)) leaf (keyOf Kind.Text (now (key .entry))) (s .count) i) ⌝ }
+{
+    let it = item::item_at(image, Form::Bytes, s.more as usize);
+    let Sized::At { at, len: _, next } = it else {
+        return false;
+    };
+    let o = key::compare(Kind::Text, &image[at..next], key);
+    is_passed(o, leaf)
 }
 
 // The pass after a stretch, if it can be passed at once; else as it was.
@@ -42,22 +67,16 @@ fn jump(image: &[u8], s: Stretch, p: Passing, key: &[u8], leaf: bool) -> Passing
         return p;
     }
     if p.going {
-        let g = content::probe_key(image, Kind::Text, s.more as usize, key);
-        let Probe::UpTo { next: _, same } = g else {
-            return p;
-        };
-        if leaf {
-            if same {
-                return p;
-            }
+        if passes_all(image, p.i, s, key, leaf) {
+            return Passing {
+                i: s.next,
+                left: p.left - s.count,
+                lead: p.lead + s.count,
+                going: true,
+                same: p.same,
+            };
         }
-        return Passing {
-            i: s.next,
-            left: p.left - s.count,
-            lead: p.lead + s.count,
-            going: true,
-            same: p.same,
-        };
+        return p;
     }
     Passing {
         i: s.next,
@@ -65,6 +84,46 @@ fn jump(image: &[u8], s: Stretch, p: Passing, key: &[u8], leaf: bool) -> Passing
         lead: p.lead,
         going: false,
         same: p.same,
+    }
+}
+
+// A pass after stretches, one after another, and the number that the next one has; `start`: a far one begins
+// where it is.
+pub struct Leap {
+    pub p: Passing,
+    pub index: usize,
+    pub start: bool,
+}
+
+// The pass after all stretches of a form from where it is that can be passed at once; near ones, up to where
+// a far one begins.
+fn leap_texts(image: &[u8], marks: &[u64], form: u32, p: Passing, key: &[u8], leaf: bool) -> Leap
+    requires { ⌜ (form % 4 ≡ 1) × Near p × Stretches (now image) (now marks) ⌝ }
+    ensures { λ r. ⌜ Jumped (now (image .entry)) leaf (keyOf Kind.Text (now (key .entry))) p (r .p) ⌝ }
+{
+    let mut q = p;
+    let mut index = stretch::seek(marks, form, p.i);
+    while 0 < q.left {
+        let s = stretch::stretch_at(marks, index, form, q.i);
+        let r = jump(image, s, q, key, leaf);
+        if q.left <= r.left {
+            return Leap {
+                p: q,
+                index,
+                start: false,
+            };
+        }
+        let start = form < FAR && is_far_start(q.i, s.count, r.i);
+        q = r;
+        index = following(marks, index, form, q.i);
+        if start {
+            return Leap { p: q, index, start };
+        }
+    }
+    Leap {
+        p: q,
+        index,
+        start: false,
     }
 }
 
@@ -134,49 +193,57 @@ fn one_key(image: &[u8], p: Passing, key: &[u8], leaf: bool, it: Sized) -> Turn
     })
 }
 
-// The keys of a stretch one by one, up to the one that stops the lookup. They were read before, so that
-// their lengths are enough.
+// The pass after `count` keys that the lookup passes, which end at `i`.
+fn led_to(p: Passing, count: u32, i: usize) -> Passing
+    requires { ⌜ Near p × (count ≤ p .left) ⌝ }
+    ensures { λ r. ⌜ r ≡ ledTo p count i ⌝ }
+{
+    Passing {
+        i,
+        left: p.left - count,
+        lead: p.lead + count,
+        going: true,
+        same: p.same,
+    }
+}
+
+// The pass after those keys of a stretch that the lookup passes, up to the one that stops it. They were read
+// before, so that their lengths are enough.
+fn lead_past(image: &[u8], s: Stretch, p: Passing, key: &[u8], leaf: bool) -> Passing
+    requires { ⌜ Near p × (s .count ≤ p .left) × Texts (now image) (p .i) (s .count) (s .next) (s .more) ⌝ }
+    ensures { λ r. ⌜ Gone (now (image .entry)) leaf (keyOf Kind.Text (now (key .entry))) p (s .count) r ⌝ }
+{
+    if p.going {} else {
+        return p;
+    }
+    let mut count: u32 = 0;
+    let mut j = p.i;
+    while count < s.count {
+        let it = item::item_at(image, Form::Bytes, j);
+        let Sized::At { at, len: _, next } = it else {
+            return led_to(p, count, j);
+        };
+        let o = key::compare(Kind::Text, &image[at..next], key);
+        if is_passed(o, leaf) {} else {
+            return led_to(p, count, j);
+        }
+        j = next;
+        count += 1;
+    }
+    led_to(p, count, j)
+}
+
+// The keys of a stretch one by one, up to the one that stops the lookup.
 fn scan_keys(image: &[u8], s: Stretch, p: Passing, key: &[u8], leaf: bool) -> Turn
     requires { ⌜ Near p × (0 < s .count) × (s .count ≤ p .left) × Texts (now image) (p .i) (s .count) (s .next) (s .more) ⌝ }
     ensures { λ r. ⌜ Ran (now (image .entry)) leaf (keyOf Kind.Text (now (key .entry))) p (s .count) r ⌝ }
 {
-    let mut q = p;
-    let mut more = s.count;
-    while 0 < more {
-        let it = item::item_at(image, Form::Bytes, q.i);
-        let u = one_key(image, q, key, leaf, it);
-        let Turn::On(v) = u else {
-            return Turn::Stuck;
-        };
-        q = v;
-        more -= 1;
-        if q.going {} else {
-            return Turn::On(q);
-        }
+    let q = lead_past(image, s, p, key, leaf);
+    if s.count <= p.left - q.left {
+        return Turn::On(q);
     }
-    Turn::On(q)
-}
-
-// `most` keys one by one, or up to the place `stop`.
-fn run_keys(image: &[u8], p: Passing, key: &[u8], leaf: bool, most: u32, stop: usize) -> Turn
-    requires { ⌜ Near p × (0 < most) × (most ≤ p .left) ⌝ }
-    ensures { λ r. ⌜ Turned (now (image .entry)) leaf (keyOf Kind.Text (now (key .entry))) p r ⌝ }
-{
-    let mut q = p;
-    let mut more = most;
-    while 0 < more {
-        let it = item::item_at(image, Form::Text, q.i);
-        let u = one_key(image, q, key, leaf, it);
-        let Turn::On(v) = u else {
-            return Turn::Stuck;
-        };
-        q = v;
-        more -= 1;
-        if stop <= q.i {
-            return Turn::On(q);
-        }
-    }
-    Turn::On(q)
+    let it = item::item_at(image, Form::Bytes, q.i);
+    one_key(image, q, key, leaf, it)
 }
 
 // A stretch from where the pass is: at once, if it can be; else its keys one by one up to the one that
@@ -201,23 +268,18 @@ fn by_stretch(image: &[u8], s: Stretch, p: Passing, key: &[u8], leaf: bool) -> T
     Turn::On(jump(image, rest, v, key, leaf))
 }
 
-// Some keys more: by a stretch, if there is one, or `most` one by one.
-fn some_keys(
-    image: &[u8],
-    s: Stretch,
-    p: Passing,
-    key: &[u8],
-    leaf: bool,
-    most: u32,
-    stop: usize,
-) -> Turn
-    requires { ⌜ Near p × (s .count ≤ p .left) × (0 < s .count → Texts (now image) (p .i) (s .count) (s .next) (s .more)) × (0 < most) × (most ≤ p .left) ⌝ }
-    ensures { λ r. ⌜ Turned (now (image .entry)) leaf (keyOf Kind.Text (now (key .entry))) p r ⌝ }
+// Some text keys from `i` on, at most `left`: of a stretch that is remembered, where the next one that begins
+// has the number `index`; or read anew.
+fn some_texts(image: &[u8], marks: &[u64], index: usize, i: usize, left: u32) -> Stretch
+    requires { ⌜ (0 < left) × Stretches (now image) (now marks) ⌝ }
+    ensures { λ r. ⌜ (r .count ≤ left) × (0 < r .count → Texts (now (image .entry)) i (r .count) (r .next) (r .more)) × (r .count ≡ 0 → itemAt (now (image .entry)) Form.Text i ≡ Sized.Bad) ⌝ }
 {
-    if s.count == 0 {
-        return run_keys(image, p, key, leaf, most, stop);
+    let s = met_texts(image, marks, index, i, left);
+    if 0 < s.count {
+        return s;
     }
-    by_stretch(image, s, p, key, leaf)
+    let most = near_most(image, marks, TEXTS, left);
+    read_texts(image, marks, most, i, near_end(image, marks, TEXTS, i))
 }
 
 // Passes `n` text keys from `at` on, at a leaf or an inner page.
@@ -239,31 +301,26 @@ pub(crate) fn pass_texts(
         going: true,
         same: false,
     };
-    let mut t = trail_at(marks, TEXTS, at);
+    let mut begun = stretch::NOWHERE;
     while 0 < p.left {
-        let q = jump(image, met_far(image, marks, t, TEXTS, p.i), p, key, leaf);
+        let f = leap_texts(image, marks, TEXTS + FAR, p, key, leaf);
+        let far = f.p;
+        let near = leap_texts(image, marks, TEXTS, far, key, leaf);
+        let q = near.p;
         if q.left < p.left {
+            begun = after_leap(image, marks, TEXTS, begun, p.i, far.i, q.i, near.start);
             p = q;
-            t = leapt(marks, t, TEXTS, p.i);
         } else {
-            t = landed(marks, t, TEXTS, p.i);
-            let s = met_texts(image, marks, t, p.i, p.left);
-            let most = room(marks, t, TEXTS, s, p.left);
-            let u = some_keys(image, s, p, key, leaf, most, stop_of(t, s));
+            let s = some_texts(image, marks, near.index, p.i, p.left);
+            if s.count == 0 {
+                return Keys::Stuck;
+            }
+            let u = by_stretch(image, s, p, key, leaf);
             let Turn::On(v) = u else {
                 return Keys::Stuck;
             };
-            t = tread(
-                image,
-                marks,
-                t,
-                TEXTS,
-                s,
-                p.left - v.left,
-                p.i,
-                v.i,
-                v.left == 0,
-            );
+            keep_near(image, marks, TEXTS, p.i, s);
+            begun = stretch::NOWHERE;
             p = v;
         }
     }

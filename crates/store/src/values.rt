@@ -1,38 +1,40 @@
-// A pass over values.
-use super::trail::landed;
-use super::trail::leapt;
-use super::trail::met_far;
-use super::trail::met_near;
-use super::trail::trail_at;
-use super::tread::room;
-use super::tread::stop_of;
-use super::tread::tread;
+// A pass over values, which is also a pass over any items of a length and bytes.
+use super::trail::after_leap;
+use super::trail::following;
+use super::trail::is_far_start;
+use super::trail::keep_near;
+use super::trail::near_end;
+use super::trail::near_most;
+use super::trail::next_start;
+use super::trail::start_after;
 use item::Form;
 use item::Skip;
 use key::Sized;
+use stretch::FAR;
 use stretch::Stretch;
 use stretch::VALUES;
-ghost use Prim.Native.Nat.{_<_, _≤_};
+ghost use Prim.Native.Nat.{_<_, _≤_, _%_};
 ghost use mathlib.Core.Path.{_≡_};
-ghost use Rattle.item.specs.Item.{skipped};
+ghost use mathlib.Core.Bool.{true};
+ghost use Rattle.item.specs.Item.{itemAt, skipped};
 ghost use Rattle.stretch.specs.Stretch.{Values, Stretches};
-ghost use Rattle.store.specs.Passing.{RunOf};
 
-// Items passed one by one: how many are left, and the place after those passed.
-pub enum Run {
-    To { left: u32, next: usize },
-    Stuck,
+// Some items passed, and the place after them.
+pub struct Passed {
+    pub count: u32,
+    pub next: usize,
 }
 
-// Of `n` values from `i` on, `most` one by one, or up to the place `stop`.
-fn run_values(image: &[u8], n: u32, i: usize, most: u32, stop: usize) -> Run
-    requires { ⌜ (0 < most) × (most ≤ n) ⌝ }
-    ensures { λ r. ⌜ RunOf (now (image .entry)) n i r ⌝ }
+// `n` items of a length and bytes from `i` on, or up to the place `stop`, or to one that can't be read.
+pub(crate) fn skip_sized(image: &[u8], i: usize, n: u32, stop: usize) -> Passed
+    ensures { λ r. ⌜ (r .count ≤ n) × (skipped (now (image .entry)) Form.Bytes (r .count) i ≡ Skip.Past (r .next)) ⌝ }
 {
-    let mut left = n;
+    let mut count: u32 = 0;
     let mut j = i;
-    let mut more = most;
-    while 0 < more {
+    while count < n {
+        if stop <= j {
+            return Passed { count, next: j };
+        }
         let it = item::item_at(image, Form::Bytes, j);
         let Sized::At {
             at: _,
@@ -40,30 +42,104 @@ fn run_values(image: &[u8], n: u32, i: usize, most: u32, stop: usize) -> Run
             next,
         } = it
         else {
-            return Run::Stuck;
+            return Passed { count, next: j };
         };
         j = next;
-        left -= 1;
-        more -= 1;
-        if stop <= j {
-            return Run::To { left, next: j };
-        }
+        count += 1;
     }
-    Run::To { left, next: j }
+    Passed { count, next: j }
 }
 
-// Some of `n` values more: by a stretch, if there is one that is not longer, or `most` one by one.
-fn some_values(image: &[u8], s: Stretch, n: u32, i: usize, most: u32, stop: usize) -> Run
-    requires { ⌜ (0 < most) × (most ≤ n) × (0 < s .count → Values (now image) i (s .count) (s .next)) ⌝ }
-    ensures { λ r. ⌜ RunOf (now (image .entry)) n i r ⌝ }
+// So many values, up to a place.
+fn values_to(count: u32, next: usize) -> Stretch
+    ensures { λ r. ⌜ (r .count ≡ count) × (r .next ≡ next) ⌝ }
 {
-    if 0 < s.count && s.count <= n {
-        return Run::To {
-            left: n - s.count,
-            next: s.next,
-        };
+    Stretch {
+        count,
+        next,
+        more: 0,
     }
-    run_values(image, n, i, most, stop)
+}
+
+// `n` values from `at` on; fewer, up to where a stretch begins, or past the place `end`, or to one that can't
+// be read.
+fn read_values(image: &[u8], marks: &[u64], n: u32, at: usize, end: usize) -> Stretch
+    requires { ⌜ 0 < n ⌝ }
+    ensures { λ r. ⌜ (r .count ≤ n) × Values (now (image .entry)) at (r .count) (r .next) × (r .count ≡ 0 → itemAt (now (image .entry)) Form.Bytes at ≡ Sized.Bad) ⌝ }
+{
+    let mut count: u32 = 0;
+    let mut j = at;
+    let mut stop = start_after(marks, VALUES, at);
+    while count < n {
+        let it = item::item_at(image, Form::Bytes, j);
+        let Sized::At {
+            at: _,
+            len: _,
+            next,
+        } = it
+        else {
+            return values_to(count, j);
+        };
+        j = next;
+        count += 1;
+        if stop < j {
+            stop = next_start(marks, VALUES, j);
+        }
+        if stop == j || end <= j {
+            return values_to(count, j);
+        }
+    }
+    values_to(count, j)
+}
+
+// A pass over values that has come to place `i`, with `left` to go; `start`: a far stretch begins there.
+pub struct Hop {
+    pub left: u32,
+    pub i: usize,
+    pub start: bool,
+}
+
+// Whether a stretch can be passed at once: it is no longer than what is left.
+fn can_hop(s: Stretch, left: u32) -> bool
+    ensures { λ r. ⌜ (r ≡ true → (0 < s .count) × (s .count ≤ left)) ⌝ }
+{
+    if s.count == 0 {
+        return false;
+    }
+    s.count <= left
+}
+
+// The pass after all stretches of a form from where it is that can be passed at once; near ones, up to where
+// a far one begins.
+fn leap_values(image: &[u8], marks: &[u64], form: u32, p: Hop) -> Hop
+    requires { ⌜ (form % 4 ≡ 2) × Stretches (now image) (now marks) ⌝ }
+    ensures { λ r. ⌜ (r .left ≤ p .left) × (skipped (now (image .entry)) Form.Bytes (r .left) (r .i) ≡ skipped (now (image .entry)) Form.Bytes (p .left) (p .i)) ⌝ }
+{
+    let mut left = p.left;
+    let mut i = p.i;
+    let mut index = stretch::seek(marks, form, i);
+    while 0 < left {
+        let s = stretch::stretch_at(marks, index, form, i);
+        if can_hop(s, left) {} else {
+            return Hop {
+                left,
+                i,
+                start: false,
+            };
+        }
+        let start = form < FAR && is_far_start(i, s.count, s.next);
+        left -= s.count;
+        i = s.next;
+        if start {
+            return Hop { left, i, start };
+        }
+        index = following(marks, index, form, i);
+    }
+    Hop {
+        left,
+        i,
+        start: false,
+    }
 }
 
 // The place after `n` values.
@@ -71,27 +147,32 @@ pub(crate) fn pass_values(image: &[u8], marks: &mut [u64], n: u32, at: usize) ->
     requires { ⌜ Stretches (now image) (now marks) ⌝ }
     ensures { λ r. ⌜ Stretches (now (image .entry)) (now (marks .exit)) × (r ≡ skipped (now (image .entry)) Form.Bytes n at) ⌝ }
 {
-    let mut left = n;
-    let mut i = at;
-    let mut t = trail_at(marks, VALUES, at);
-    while 0 < left {
-        let f = met_far(image, marks, t, VALUES, i);
-        if 0 < f.count && f.count <= left {
-            i = f.next;
-            left -= f.count;
-            t = leapt(marks, t, VALUES, i);
+    let mut p = Hop {
+        left: n,
+        i: at,
+        start: false,
+    };
+    let mut begun = stretch::NOWHERE;
+    while 0 < p.left {
+        let far = leap_values(image, marks, VALUES + FAR, p);
+        let near = leap_values(image, marks, VALUES, far);
+        if near.left < p.left {
+            begun = after_leap(image, marks, VALUES, begun, p.i, far.i, near.i, near.start);
+            p = near;
         } else {
-            t = landed(marks, t, VALUES, i);
-            let s = met_near(image, marks, t, VALUES, i);
-            let most = room(marks, t, VALUES, s, left);
-            let r = some_values(image, s, left, i, most, stop_of(t, s));
-            let Run::To { left: rest, next } = r else {
+            let most = near_most(image, marks, VALUES, p.left);
+            let s = read_values(image, marks, most, p.i, near_end(image, marks, VALUES, p.i));
+            if s.count == 0 {
                 return Skip::Stuck;
+            }
+            keep_near(image, marks, VALUES, p.i, s);
+            begun = stretch::NOWHERE;
+            p = Hop {
+                left: p.left - s.count,
+                i: s.next,
+                start: false,
             };
-            t = tread(image, marks, t, VALUES, s, left - rest, i, next, rest == 0);
-            i = next;
-            left = rest;
         }
     }
-    Skip::Past(i)
+    Skip::Past(p.i)
 }

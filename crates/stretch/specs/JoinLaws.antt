@@ -1,43 +1,35 @@
--- Two stretches as one, the second from where the first ends.
+-- Two stretches as one, the second from where the first ends. One key more is a stretch of one key.
 --
 --   values-join, counts-join    of values, of recorded counts
---   join-up, join-keep          of text keys, where the second's greatest key is the greatest of all, and where the first's is
+--   join-less, join-keep        of text keys, where the first's greatest key is below the second's, and where it is not
 use Prim.Native.Nat.{ℕ, _+_, _-_, _%_, _^_, _<_}
-use mathlib.Core.Path.{_≡_, sym, _∙_}
-use mathlib.Core.Bool.{Bool, false}
+use mathlib.Core.Path.{_≡_, refl, sym, _∙_}
+use mathlib.Core.Bool.{true, false}
 use mathlib.Core.List.{List}
-use mathlib.Core.Logic.{_⊎_, inl, inr}
 use mathlib.Core.Option.{some}
 use native.Mathlib.Nat.{zero-add}
 use native.Mathlib.Omega.{arith}
-use lib.ListN.{take, drop}
+use Rattle.order.specs.declared.Order.{Order}
 use Rattle.order.specs.declared.Order.the-variants as order
-use Rattle.order.specs.Order.{below}
+use Rattle.order.specs.Order.{isLess, below}
 use Rattle.key.specs.declared.Kind.the-variants as kind
-use Rattle.key.specs.declared.sized.Sized.the-variants.{At}
-use Rattle.key.specs.Key.{Key, keyOf, compareKeys}
-use Rattle.item.specs.declared.Form.{Form}
+use Rattle.key.specs.Key.{Key, compareKeys}
+use Rattle.key.specs.Laws.{key-order}
 use Rattle.item.specs.declared.Form.the-variants.{Text, Bytes}
 use Rattle.item.specs.declared.Skip.the-variants.{Past}
-use Rattle.item.specs.Step.{bad}
-use Rattle.item.specs.Item.{itemAt, items, skipped}
+use Rattle.item.specs.Item.{skipped}
 use Rattle.item.specs.CountLaws.{countedFrom, counted-from, counted-none}
-use Rattle.page.specs.Judged.{keyForm}
 use Rattle.tree.specs.ListLaws.{all-append, all-imp}
-use Rattle.content.specs.declared.Probe.the-variants.{UpTo, Stop}
-use Rattle.content.specs.Content.{keyIn, keysIn, probeAt}
-use Rattle.content.specs.KeyLaws.{Greater, seen, stopped}
+use Rattle.content.specs.Content.{keysIn}
 use Rattle.stretch.specs.declared.Stretch.{Stretch}
 use Rattle.stretch.specs.Stretch.{keyHere, Texts, Values, Counts, StretchOf}
-use Rattle.stretch.specs.TextsLaws.{key-here, key-bytes, here-got, here-bad, self-false, upto-false}
-use Rattle.stretch.specs.JumpLaws.{skipped-jump, keys-jump, counted-jump}
+use Rattle.stretch.specs.TextsLaws.{self-false, upto-false}
+use Rattle.stretch.specs.JumpLaws.{skipped-join, keys-jump, counted-jump}
 
--- ## Items of a form
-skipped-join : (s : List ℕ) (f : Form) (m n i : ℕ) {j k : ℕ} → skipped s f m i ≡ Past j → skipped s f n j ≡ Past k → skipped s f (m + n) i ≡ Past k
-skipped-join s f m n i a b =
-    let e : m + n - m ≡ n = omega arith in
-    skipped-jump s f (m + n) i a (omega arith) ∙ rw e b
+pub false-true : false ≡ true → ⊥
+false-true e = let z : _≡_ {A = ℕ} 0 1 = cc in omega arith
 
+-- ## Values
 pub values-join : (s : List ℕ) (m n i : ℕ) {j k : ℕ} → Values s i m j → Values s j n k → Values s i (m + n) k
 values-join s m n i a b = skipped-join s Bytes m n i a b
 
@@ -57,32 +49,19 @@ module _ {s : List ℕ} {i m j g n k h : ℕ} (a : Texts s i m j g) (b : Texts s
             (all-imp (λ z. upto-false x (b .greatest) z q) (keysIn s kind.Text n j) (b .most)));
       }
 
-  module _ {at len next : ℕ} (q : itemAt s Text h ≡ At at len next) where
-    abbrev here : Key
-    here = keyIn s kind.Text (record { at = at; len = len })
+  -- the first's greatest key is below the second's
+  pub join-less : below compareKeys (a .greatest) (b .greatest) ≡ true → Texts s i (m + n) k h
+  join-less less = go (compareKeys (a .greatest) (b .greatest)) refl less
+    where
+      go : (o : Order) → compareKeys (a .greatest) (b .greatest) ≡ o → isLess o ≡ true → Texts s i (m + n) k h
+      go order.Less c e =
+          texts-join (b .greatest) h (b .stands) (rw (key-order .flip (a .greatest) (b .greatest), c)) (self-false (b .greatest))
+      go order.Equal c e = absurd (false-true e)
+      go order.Greater c e = absurd (false-true e)
 
-    at-here : here ≡ b .greatest
-    at-here = cc (key-here s h q, b .stands)
-
-    -- the second's greatest key is not below the first's
-    pub join-up : {x : ℕ} {t : Bool} → probeAt s kind.Text g (keyOf kind.Text (take (next - at) (drop at s))) ≡ UpTo x t → Texts s i (m + n) k h
-    unfolding keyForm
-    join-up e =
-        let v = seen s kind.Text here g (rw (key-bytes s h q) at e) in
-        let k : keyIn s kind.Text (v .spot) ≡ a .greatest = here-got s g (v .reads) (a .stands) in
-        texts-join here h (key-here s h q) (rw k at (v .upto)) (rw at-here (self-false (b .greatest)))
-
-    -- the first's greatest key is greater
-    pub join-keep : probeAt s kind.Text g (keyOf kind.Text (take (next - at) (drop at s))) ≡ Stop → Texts s i (m + n) k g
-    unfolding keyForm
-    join-keep e = go (stopped s kind.Text here g (rw (key-bytes s h q) at e))
-      where
-        go : (items s (keyForm kind.Text) g ≡ bad) ⊎ Greater s kind.Text here g → Texts s i (m + n) k g
-        go (inl r) = absurd (here-bad s g r (a .stands))
-        go (inr v) =
-            let k : keyIn s kind.Text (v .spot) ≡ a .greatest = here-got s g (v .reads) (a .stands) in
-            let o : compareKeys (a .greatest) (b .greatest) ≡ order.Greater = rw (k, at-here) at (v .order) in
-            texts-join (a .greatest) g (a .stands) (self-false (a .greatest)) (rw o)
+  -- it is not
+  pub join-keep : below compareKeys (a .greatest) (b .greatest) ≡ false → Texts s i (m + n) k g
+  join-keep c = texts-join (a .greatest) g (a .stands) (self-false (a .greatest)) c
 
 -- ## Recorded counts
 pub counts-join : (s : List ℕ) (m n i : ℕ) {j k t u : ℕ} → Counts s i m j t → Counts s j n k u → t + u < 2 ^ 48 → Counts s i (m + n) k (t + u)

@@ -2,6 +2,7 @@
 --
 --   after-jump, upTo-jump    of any reader
 --   skipped-jump, keys-jump, counted-jump    of items of a form, of text keys, of recorded counts
+--   skipped-join, skipped-item               m items and then n are m + n; one item
 use Prim.Native.Nat.{ℕ, zero, suc, _+_, _-_, _≤_, _<_}
 use mathlib.Core.Path.{_≡_, refl, sym, _∙_, ap}
 use mathlib.Core.Bool.{Bool, true, false}
@@ -21,8 +22,9 @@ use Rattle.item.specs.declared.Form.the-variants.{Text}
 use Rattle.item.specs.declared.Skip.the-variants as skip
 use Rattle.item.specs.declared.Counted.the-variants.{Sum}
 use Rattle.item.specs.Step.{Step, got, bad, onStep, after, upTo}
-use Rattle.item.specs.Item.{items, countLimit, countAt, skipOf, skipped, countedOf, counted}
-use Rattle.item.specs.ItemLaws.{skipped-length}
+use Rattle.key.specs.declared.sized.Sized.the-variants.{At}
+use Rattle.item.specs.Item.{itemAt, items, countLimit, countAt, skipOf, skipped, countedOf, counted}
+use Rattle.item.specs.ItemLaws.{skipped-none, skipped-more, skipped-length}
 use Rattle.item.specs.CountLaws.{countedFrom, count-bad, count-at, count-over, count-sum}
 use Rattle.page.specs.Judged.{keyForm}
 use Rattle.content.specs.Content.{keyIn, keysIn}
@@ -86,6 +88,14 @@ module _ (s : List ℕ) (f : Form) where
   pub skipped-jump : (n i : ℕ) {m j : ℕ} → skipped s f m i ≡ skip.Past j → m ≤ n → skipped s f n i ≡ skipped s f (n - m) j
   unfolding skipped
   skipped-jump n i {m} e h = ap skipOf (after-jump (items s f) m n i (skipped-some m i e) h)
+
+  pub skipped-join : (m n i : ℕ) {j k : ℕ} → skipped s f m i ≡ skip.Past j → skipped s f n j ≡ skip.Past k → skipped s f (m + n) i ≡ skip.Past k
+  skipped-join m n i a b =
+      let e : m + n - m ≡ n = omega arith in
+      skipped-jump (m + n) i a (omega arith) ∙ rw e b
+
+  pub skipped-item : (i : ℕ) {at len next : ℕ} → itemAt s f i ≡ At at len next → skipped s f 1 i ≡ skip.Past next
+  skipped-item i {next = next} e = skipped-more s f 1 i (omega arith) e ∙ skipped-none s f 0 next (omega arith)
 
 -- ## Text keys
 module _ (s : List ℕ) where

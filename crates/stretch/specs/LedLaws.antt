@@ -7,7 +7,7 @@
 --   ledAt ks, foundAt ks vs    the same of keys and values by their spots
 use Prim.Native.Nat.{ℕ, suc, _+_, _-_, _≤_, _<_}
 use mathlib.Core.Path.{_≡_, refl, _∙_, ap}
-use mathlib.Core.Bool.{Bool, true, false, cond, _&&_, _||_}
+use mathlib.Core.Bool.{Bool, true, false, cond, _||_}
 use mathlib.Core.List.{List, [], _∷_, _++_, map}
 use mathlib.Core.Option.{Option, none, some}
 use native.Mathlib.Nat.{add-zero}
@@ -34,12 +34,11 @@ use Rattle.tree.specs.Page.{branch, All}
 use Rattle.tree.specs.Asking.{three, findIn}
 use Rattle.tree.specs.InnerPage.{lead}
 use Rattle.tree.specs.ListLaws.{all-imp}
-use Rattle.content.specs.declared.Probe.the-variants.{UpTo, Stop}
 use Rattle.content.specs.declared.Found.the-variants as found
-use Rattle.content.specs.Content.{Entry, keyIn, keysIn, paired, entriesIn, probeAt, foundOf}
+use Rattle.content.specs.Content.{Entry, keyIn, keysIn, paired, entriesIn, foundOf}
 use Rattle.stretch.specs.declared.Keys.the-variants.{Past, Stuck}
 use Rattle.stretch.specs.Led.{passes, isEqual, led, keysBy, keysFrom}
-use Rattle.stretch.specs.Stretch.{keyHere, Texts}
+use Rattle.stretch.specs.Stretch.{Texts}
 use Rattle.stretch.specs.JumpLaws.{skipped-jump, keys-jump, keys-few, keys-length}
 
 or-false : (b : Bool) → (b || false) ≡ b
@@ -107,43 +106,26 @@ module _ (s : List ℕ) (leaf : Bool) (k : Key) (left i lead : ℕ) (same : Bool
         (keysBy-met lead same _ _ (skipped s Text (left - 1) next))
 
 -- ## Keys that a lookup passes
--- what a probe of the greatest key tells
-greatest-order : {s : List ℕ} {i m j g : ℕ} (t : Texts s i m j g) (k : Key) {x : ℕ} {b : Bool} → probeAt s kind.Text g k ≡ UpTo x b
-    → compareKeys (t .greatest) k ≡ cond b order.Equal order.Less
-unfolding keyHere probeAt keyForm
-greatest-order {s} {g = g} t k {x} {b} e = go (itemAt s Text g) (t .stands) e
-  where
-    by : (o : Order) (next : ℕ) → three o (UpTo next false) (UpTo next true) Stop ≡ UpTo x b → o ≡ cond b order.Equal order.Less
-    by order.Less next q = let f : false ≡ b = cc in rw (← f)
-    by order.Equal next q = let f : true ≡ b = cc in rw (← f)
-    by order.Greater next q = absurd (let z : _≡_ {A = ℕ} 0 1 = cc in omega arith)
-
-    go : (it : Sized) → onSized it none (λ at len next. some (keyIn s kind.Text (record { at = at; len = len }))) ≡ some (t .greatest)
-        → onSized it Stop (λ at len next.
-        three (compareKeys (keyIn s kind.Text (record { at = at; len = len })) k) (UpTo next false) (UpTo next true) Stop) ≡ UpTo x b
-        → compareKeys (t .greatest) k ≡ cond b order.Equal order.Less
-    go (At at len next) q p =
-        let f : t .greatest ≡ keyIn s kind.Text (record { at = at; len = len }) = cc in
-        rw f (by _ next p)
-    go Bad q p = absurd (let z : _≡_ {A = ℕ} 0 1 = cc in omega arith)
-
 -- a key that is not greater than one which a lookup passes
-upto-passes : (leaf : Bool) (y g k : Key) (b : Bool) → compareKeys g k ≡ cond b order.Equal order.Less → (leaf && b) ≡ false
-    → below compareKeys g y ≡ false → passes leaf (compareKeys y k) ≡ true
-upto-passes leaf y g k false c l h = rw (upto-below-below key-order y g k (below-false compareKeys g y h) c)
-upto-passes leaf y g k true c l h = go (compareKeys y k) refl leaf l
+upto-passes : (leaf : Bool) (y g k : Key) → passes leaf (compareKeys g k) ≡ true → below compareKeys g y ≡ false
+    → passes leaf (compareKeys y k) ≡ true
+upto-passes leaf y g k p h = go (compareKeys g k) refl p
   where
-    go : (o : Order) → compareKeys y k ≡ o → (f : Bool) → (f && true) ≡ false → passes f o ≡ true
-    go order.Less q f p = refl
-    go order.Equal q true p = cc
-    go order.Equal q false p = refl
-    go order.Greater q f p =
+    equal : compareKeys g k ≡ order.Equal → passes leaf order.Equal ≡ true → (o : Order) → compareKeys y k ≡ o → passes leaf o ≡ true
+    equal c e order.Less q = refl
+    equal c e order.Equal q = e
+    equal c e order.Greater q =
         absurd (below-false compareKeys g y h (rw (key-order .same g k c) (greater-below key-order y k q)))
 
-pub greatest-passes : {s : List ℕ} {i m j g : ℕ} → Texts s i m j g → (leaf : Bool) (k : Key) {x : ℕ} {b : Bool} → probeAt s kind.Text g k ≡ UpTo x b
-    → (leaf && b) ≡ false → All (λ y. passes leaf (compareKeys y k) ≡ true) (keysIn s kind.Text m i)
-greatest-passes {s} {i} {m} t leaf k {b = b} e l =
-    all-imp (λ y. upto-passes leaf y (t .greatest) k b (greatest-order t k e) l) (keysIn s kind.Text m i) (t .most)
+    go : (o : Order) → compareKeys g k ≡ o → passes leaf o ≡ true → passes leaf (compareKeys y k) ≡ true
+    go order.Less c e = rw (upto-below-below key-order y g k (below-false compareKeys g y h) c)
+    go order.Equal c e = equal c e (compareKeys y k) refl
+    go order.Greater c e = cc
+
+pub greatest-passes : {s : List ℕ} {i m j g : ℕ} (t : Texts s i m j g) (leaf : Bool) (k : Key) → passes leaf (compareKeys (t .greatest) k) ≡ true
+    → All (λ y. passes leaf (compareKeys y k) ≡ true) (keysIn s kind.Text m i)
+greatest-passes {s} {i} {m} t leaf k e =
+    all-imp (λ y h. upto-passes leaf y (t .greatest) k e h) (keysIn s kind.Text m i) (t .most)
 
 pub led-pass : (leaf : Bool) (k : Key) (xs ys : List Key) → All (λ y. passes leaf (compareKeys y k) ≡ true) xs
     → led leaf k (xs ++ ys) ≡ (length xs + led leaf k ys .0, led leaf k ys .1)
@@ -154,14 +136,14 @@ led-pass leaf k (x ∷ xs) ys h =
 
 -- ## Keys passed at once
 module _ (s : List ℕ) (leaf : Bool) (k : Key) (left i lead : ℕ) (same : Bool) {m j g : ℕ} (t : Texts s i m j g) (h : m ≤ left) where
-  pub keysFrom-jump : {x : ℕ} {b : Bool} → probeAt s kind.Text g k ≡ UpTo x b → (leaf && b) ≡ false
+  pub keysFrom-jump : All (λ y. passes leaf (compareKeys y k) ≡ true) (keysIn s kind.Text m i)
       → keysFrom s leaf k left i lead true same ≡ keysFrom s leaf k (left - m) j (lead + m) true same
   unfolding keysFrom
-  keysFrom-jump e l =
+  keysFrom-jump all =
       rw (
         skipped-jump s Text left i (t .passed) h,
         keys-jump s left i (t .passed) h,
-        led-pass leaf k (keysIn s kind.Text m i) (keysIn s kind.Text (left - m) j) (greatest-passes t leaf k e l),
+        led-pass leaf k (keysIn s kind.Text m i) (keysIn s kind.Text (left - m) j) all,
         keys-length s m i (t .passed),
       )
       (keysBy-on lead same m _ refl _ (skipped s Text (left - m) j))

@@ -4,14 +4,16 @@
 --   texts-rest      those after the first k are one
 --   texts-hopped    where text keys stand, passing them by their lengths alone comes to the same place
 --   texts-item      and one is read by its length alone
+--   key-by-length   the key that stands at a place, read so
 use Prim.Native.Nat.{ℕ, zero, suc, _-_, _≤_, _<_}
 use mathlib.Core.Path.{_≡_, refl, sym, _∙_, ap}
 use mathlib.Core.Bool.{Bool, true, false, cond}
 use mathlib.Core.List.{List}
+use mathlib.Core.Option.{Option, none, some}
 use native.Mathlib.Omega.{arith}
 use borrow.Author.Tests.{lt-ltb, ltb-true}
 use lib.Dec.{ltb}
-use lib.ListN.{length, drop}
+use lib.ListN.{length, take, drop}
 use Rattle.numeral.specs.declared.Numeral.{Numeral}
 use Rattle.numeral.specs.declared.Numeral.the-variants as numeral
 use Rattle.numeral.specs.Var.{varFrom, limited, varAt}
@@ -19,7 +21,7 @@ use Rattle.key.specs.declared.Kind.the-variants as kind
 use Rattle.key.specs.declared.sized.Sized.{Sized}
 use Rattle.key.specs.declared.sized.Sized.the-variants.{At, Bad}
 use Rattle.key.specs.Sized.{follow, sizedAt}
-use Rattle.key.specs.Key.{printable, keyAt}
+use Rattle.key.specs.Key.{Key, keyOf, printable, keyAt}
 use Rattle.item.specs.declared.Form.the-variants.{Text, Bytes}
 use Rattle.item.specs.declared.Skip.{Skip}
 use Rattle.item.specs.declared.Skip.the-variants.{Past, Stuck}
@@ -28,11 +30,15 @@ use Rattle.item.specs.Item.{onSized, itemAt, valueLimit, skipped}
 use Rattle.item.specs.ItemLaws.{skipped-bad}
 use Rattle.tree.specs.ListLaws.{all-left, all-right}
 use Rattle.content.specs.Content.{keysIn}
-use Rattle.stretch.specs.Stretch.{Texts}
+use Rattle.stretch.specs.Stretch.{keyHere, Texts}
+use Rattle.stretch.specs.TextsLaws.{here-key}
 use Rattle.stretch.specs.JumpLaws.{skipped-stuck, skipped-jump, keys-jump}
 use Rattle.stretch.specs.CutLaws.{skipped-one}
 
 -- ## A text key by its length alone
+none-some : {k : Key} → _≡_ {A = Option Key} none (some k) → ⊥
+none-some e = let z : _≡_ {A = ℕ} 0 1 = cc in omega arith
+
 -- what a test lets pass is what it was put to
 tested : (t : Bool) (a n x : ℕ) → onSized (cond t (At a n x) Bad) (At a n x) At ≡ At a n x
 tested true a n x = refl
@@ -67,6 +73,16 @@ module _ (s : List ℕ) where
           → ((x : ℕ) → skipped s Text k x ≡ Past h → skipped s Bytes k x ≡ Past h) → skipped s Bytes (suc k) i ≡ Past h
       go (At at len next) q p ih = skipped-one s Bytes k i ∙ rw (item-bytes i q) (ih next p)
       go Bad q p ih = cc
+
+  -- the key that stands at a place, by its length alone
+  pub key-by-length : (g : ℕ) {k : Key} {at len next : ℕ} → keyHere s g ≡ some k → itemAt s Bytes g ≡ At at len next
+      → keyOf kind.Text (take (next - at) (drop at s)) ≡ k
+  unfolding keyHere
+  key-by-length g {k} {at} {len} {next} h e = go (itemAt s Text g) refl
+    where
+      go : (r : Sized) → itemAt s Text g ≡ r → keyOf kind.Text (take (next - at) (drop at s)) ≡ k
+      go (At a n x) q = here-key s g h (q ∙ sym (item-bytes g q) ∙ e)
+      go Bad q = absurd (none-some (rw q at h))
 
 -- ## Parts
 module _ {s : List ℕ} {i m j g : ℕ} (t : Texts s i m j g) {k h : ℕ} (few : k ≤ m) where

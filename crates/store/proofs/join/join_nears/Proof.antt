@@ -1,18 +1,18 @@
 use Prim.Native.Nat.{_<_}
 use native.Mathlib.Omega.{arith}
-use borrow.Author.Needs.{needs}
 use Rattle.stretch.specs.Stretch.{StretchOf}
+use borrow.Author.Needs.{needs}
 use Rattle.store.proofs.join.join_nears.Statement.{statement}
 use Rattle.store.proofs.join.join_nears.Tie as tie
 
 abbrev Inv-loop : tie.InvT-loop
-Inv-loop image marks form n at s₀ left₀ s left = 0 < s .count → StretchOf image form at s
+Inv-loop image marks form at end s₀ left₀ s left = 0 < s .count → StretchOf image form at s
 
 abbrev μ-loop : tie.MeasureT-loop
-μ-loop image marks form n at s₀ left₀ s left = left
+μ-loop image marks form at end s₀ left₀ s left = left
 
 loop-holds : tie.Need-loop-holds Inv-loop μ-loop
-loop-holds c = c .near-at .ensures
+loop-holds c = c .stretch-from .ensures
 
 returns : tie.Need-returns Inv-loop μ-loop
 returns c = c .before .before .before .loop .inv
@@ -21,7 +21,7 @@ returns-2 : tie.Need-returns-2 Inv-loop μ-loop
 returns-2 c = c .before .before .before .before .before .before .before .before .loop .inv
 
 joined-requires : tie.Need-joined-requires Inv-loop μ-loop
-joined-requires c κs = (c .before .before .before .before .before .before .before .before .loop .inv (omega arith), c .before .before .near-at2 .ensures (omega arith))
+joined-requires c κs = (c .before .before .before .before .before .before .before .before .loop .inv (omega arith), c .before .before .stretch-from2 .ensures (omega arith))
 
 loop-again : tie.Need-loop-again Inv-loop μ-loop
 loop-again c = λ h. c .joined .ensures

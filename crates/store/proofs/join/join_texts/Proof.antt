@@ -1,29 +1,49 @@
-use mathlib.Core.Logic.{⊎-elim}
-use mathlib.Core.Path.{sym, _∙_}
+use mathlib.Core.Path.{_≡_, sym, _∙_}
 use native.Mathlib.Omega.{arith}
-use borrow.Author.Needs.{needs}
-use Rattle.item.specs.declared.Form.the-variants.{Text}
+use Rattle.key.specs.Key.{compareKeys}
+use Rattle.item.specs.declared.Form.the-variants.{Bytes}
 use Rattle.item.specs.ItemLaws.{item-lies}
-use Rattle.stretch.specs.JoinLaws.{join-up, join-keep}
+use Rattle.stretch.specs.PartLaws.{key-by-length}
+use Rattle.stretch.specs.JoinLaws.{join-less, join-keep}
+use borrow.Author.Needs.{needs}
 use Rattle.store.proofs.join.join_texts.Statement.{statement}
 use Rattle.store.proofs.join.join_texts.Tie as tie
 
-sub-probe-key : tie.Need-sub-probe-key
-sub-probe-key c = omega (arith, item-lies _ Text _ (sym (c .before .before .before .item-at .ensures) ∙ c .before .it .given .1) .ends)
+sub-compare : tie.Need-sub-compare
+sub-compare c = omega (arith, item-lies _ Bytes _ (sym (c .before .before .before .before .before .before .before .item-at .ensures) ∙ c .before .before .before .before .before .x .given .1) .ends)
 
-part-probe-key-start : tie.Need-part-probe-key-start
-part-probe-key-start c = omega (arith, item-lies _ Text _ (sym (c .before .before .before .item-at .ensures) ∙ c .before .it .given .1) .ends)
+part-compare-start : tie.Need-part-compare-start
+part-compare-start c = omega (arith, item-lies _ Bytes _ (sym (c .before .before .before .before .before .before .before .item-at .ensures) ∙ c .before .before .before .before .before .x .given .1) .ends)
 
-part-probe-key-end : tie.Need-part-probe-key-end
-part-probe-key-end c = omega (arith, item-lies _ Text _ (sym (c .before .before .before .item-at .ensures) ∙ c .before .it .given .1) .inside)
+part-compare-end : tie.Need-part-compare-end
+part-compare-end c = omega (arith, item-lies _ Bytes _ (sym (c .before .before .before .before .before .before .before .item-at .ensures) ∙ c .before .before .before .before .before .x .given .1) .inside)
 
-returns-2 : tie.Need-returns-2
-returns-2 c =
-    let start = c .before .before .before .before .before .before .before .before .before .before in
-    let it = sym (c .before .before .before .before .before .before .before .before .item-at .ensures) ∙ c .before .before .before .before .before .before .it .given .1 in
-    let p = c .before .before .before .probe-key .ensures in
-    ⊎-elim (λ w. rw (w .2) (join-up (start .pre .0) (start .pre .1) it (sym p ∙ w .1 .given .1)))
-    (λ w. rw (w .2) (join-keep (start .pre .0) (start .pre .1) it (sym p ∙ w .1 .given .1))) (c .before .before .match2 .came)
+sub-compare-2 : tie.Need-sub-compare-2
+sub-compare-2 c = omega (arith, item-lies _ Bytes _ (sym (c .before .before .before .before .item-at2 .ensures) ∙ c .before .before .y .given .1) .ends)
+
+part-compare-start-2 : tie.Need-part-compare-start-2
+part-compare-start-2 c = omega (arith, item-lies _ Bytes _ (sym (c .before .before .before .before .item-at2 .ensures) ∙ c .before .before .y .given .1) .ends)
+
+part-compare-end-2 : tie.Need-part-compare-end-2
+part-compare-end-2 c = omega (arith, item-lies _ Bytes _ (sym (c .before .before .before .before .item-at2 .ensures) ∙ c .before .before .y .given .1) .inside)
+
+returns-3 : tie.Need-returns-3
+returns-3 c =
+    let p = c .before .before .before .before .before .before .before .before .before .before .before .before .before .before .before .pre in
+    let x = key-by-length _ _ (p .0 .stands) (sym (c .before .before .before .before .before .before .before .before .before .before .before .before .before .item-at .ensures) ∙ c .before .before .before .before .before .before .before .before .before .before .before .x .given .1) in
+    let y = key-by-length _ _ (p .1 .stands) (sym (c .before .before .before .before .before .before .before .before .before .item-at2 .ensures) ∙ c .before .before .before .before .before .before .before .y .given .1) in
+    let o : compareKeys (p .0 .greatest) (p .1 .greatest) ≡ c .before .before .before .compare .result = cc (x, y, c .before .before .before .compare .ensures) in
+    let j = c .joined-with .ensures in
+    rw (j .0, j .1, j .2) (join-less (p .0) (p .1) (rw (o, ← (c .before .before .is-less .ensures)) (c .before .if1 .taken)))
+
+returns-4 : tie.Need-returns-4
+returns-4 c =
+    let p = c .before .before .before .before .before .before .before .before .before .before .before .before .before .before .before .pre in
+    let x = key-by-length _ _ (p .0 .stands) (sym (c .before .before .before .before .before .before .before .before .before .before .before .before .before .item-at .ensures) ∙ c .before .before .before .before .before .before .before .before .before .before .before .x .given .1) in
+    let y = key-by-length _ _ (p .1 .stands) (sym (c .before .before .before .before .before .before .before .before .before .item-at2 .ensures) ∙ c .before .before .before .before .before .before .before .y .given .1) in
+    let o : compareKeys (p .0 .greatest) (p .1 .greatest) ≡ c .before .before .before .compare .result = cc (x, y, c .before .before .before .compare .ensures) in
+    let j = c .joined-with2 .ensures in
+    rw (j .0, j .1, j .2) (join-keep (p .0) (p .1) (rw (o, ← (c .before .before .is-less .ensures)) (c .before .if1 .left)))
 
 pub join-texts-spec : {M : Type 1} → statement M
 join-texts-spec =
@@ -33,11 +53,19 @@ join-texts-spec =
     (λ c. search needs)
     (λ c. search needs)
     (λ c. search needs)
-    sub-probe-key
-    part-probe-key-start
-    part-probe-key-end
     (λ c κs. search needs)
     (λ c. search needs)
     (λ c. search needs)
     (λ c. search needs)
-    returns-2)
+    sub-compare
+    part-compare-start
+    part-compare-end
+    sub-compare-2
+    part-compare-start-2
+    part-compare-end-2
+    (λ c κs. search needs)
+    (λ c κs. search needs)
+    (λ c κs. search needs)
+    returns-3
+    (λ c κs. search needs)
+    returns-4)

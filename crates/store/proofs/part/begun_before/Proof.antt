@@ -1,7 +1,6 @@
 use Prim.Native.Nat.{ℕ}
 use mathlib.Core.Path.{_≡_, refl, ap}
 use native.Mathlib.Omega.{arith}
-use borrow.Author.Tests.{eqb-false}
 use Rattle.stretch.specs.declared.Stretch.{Stretch}
 use Rattle.stretch.specs.MarksLaws.{found}
 use borrow.Author.Needs.{needs}
@@ -11,15 +10,8 @@ use Rattle.store.proofs.part.begun_before.Tie as tie
 returns : tie.Need-returns
 returns c = λ h. absurd (let z : _≡_ {A = ℕ} _ 0 = ap (λ (x : Stretch). x .count) (c .nothing-at .ensures) in omega (arith, h, z))
 
-sub-begins-at : tie.Need-sub-begins-at
-sub-begins-at c = omega (arith, eqb-false)
-
-sub-stretch-at : tie.Need-sub-stretch-at
-sub-stretch-at c = omega (arith, eqb-false)
-
 rest-of-requires : tie.Need-rest-of-requires
-rest-of-requires c κs =
-    λ h. found (c .before .before .before .before .before .before .before .pre) _ _ _ (c .stretch-at .ensures) h .texts refl
+rest-of-requires c κs = λ h. found (c .before .before .before .before .before .pre) _ _ _ (c .stretch-at .ensures) h .texts refl
 
 pub begun-before-spec : {M : Type 1} → statement M
 begun-before-spec =
@@ -27,9 +19,9 @@ begun-before-spec =
     (tie.spec
     (λ c κs. search needs)
     returns
-    sub-begins-at
+    (λ c. search needs)
     (λ c κs. search needs)
-    sub-stretch-at
+    (λ c. search needs)
     (λ c κs. search needs)
     rest-of-requires
     (λ c. search needs))

@@ -6,7 +6,7 @@ use Rattle.store.proofs.part.first_of.Tie as tie
 
 returns-2 : tie.Need-returns-2
 returns-2 c =
-    let h = c .hop .ensures in
+    let h = c .skip-sized .ensures in
     let t = c .before .before .before .before .pre (omega arith) in
     (h .0, λ e. texts-first t (omega arith) (texts-hopped t (omega arith) (h .1)))
 

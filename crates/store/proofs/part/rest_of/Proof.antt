@@ -15,7 +15,7 @@ returns-2 c = λ h. absurd (let z : _≡_ {A = ℕ} _ 0 = ap (λ (x : Stretch). 
 
 returns-3 : tie.Need-returns-3
 returns-3 c =
-    let h = c .before .before .before .before .hop .ensures in λ e.
+    let h = c .before .before .before .before .skip-sized .ensures in λ e.
     let t = c .before .before .before .before .before .before .before .before .pre (omega (arith, e)) in
     rw (c .before .before .if2 .left) at (texts-rest t (h .0) (texts-hopped t (h .0) (h .1)))
 
