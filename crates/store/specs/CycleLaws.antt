@@ -33,7 +33,7 @@ use Rattle.metadata.specs.declared.descent.Advance.{Advance}
 use Rattle.metadata.specs.declared.descent.Advance.the-variants.{To, Done}
 use Rattle.metadata.specs.Answers.{placeOf}
 use Rattle.store.specs.Store.{metadata, chunkKey}
-use Rattle.store.specs.Memory.{half, RightWords, TellsOf, Sought}
+use Rattle.store.specs.Memory.{chunkWords, RightWords, TellsOf, Sought}
 use Rattle.store.specs.MemoryLaws.{recalled-known, right-front}
 use Rattle.store.specs.SettleLaws.{settled-tells, settled-right}
 use Rattle.metadata.specs.Descent.{foundStep, stepOf, advanceBy, advanceOf}
@@ -50,19 +50,19 @@ module _ (image : List ℕ) (newest : Chunk) where
     unfolding TellsOf
     tells-ninth other e i = rw (e, i) (ninth-refused (metadata image newest) other)
 
-    module _ {ws : List ℕ} (right : RightWords image newest ws) {l : Place} {n : ℕ}
-        (e : recalledIn (take (half ws) ws) c ≡ recalled.At l n) where
+    module _ {ws : List ℕ} (right : RightWords image newest ws) (h : ℕ) (at : h ≡ chunkWords (length image) (length ws))
+        {l : Place} {n : ℕ} (e : recalledIn (take h ws) c ≡ recalled.At l n) where
       pub tells-few : q < n → {r : Refusal} → r ≡ ninthQuestion → TellsOf image newest q c (told.Refused r)
       unfolding TellsOf
-      tells-few h i = rw i (gated-shut (recalled-known image newest right c e) q h)
+      tells-few m i = rw i (gated-shut (recalled-known image newest right h at c e) q m)
 
       pub tells-recalled : n ≤ q → TellsOf image newest q c (told.At l n)
       unfolding TellsOf
-      tells-recalled h = (h, recalled-known image newest right c e)
+      tells-recalled m = (m, recalled-known image newest right h at c e)
 
   -- by the metadata's answer, and the memory after it
-  module _ (q c : ℕ) (ws : List ℕ) (h : ℕ) (at : h ≡ half ws) (f : Looked) (other : ¬ (c ≡ newest .id)) (some-left : ¬ (q ≡ 0))
-      (few : q ≤ 8) (right : RightWords image newest ws) (bytes : List ℕ) (is : bytes ≡ chunkKey c)
+  module _ (q c : ℕ) (ws : List ℕ) (h : ℕ) (at : h ≡ chunkWords (length image) (length ws)) (f : Looked)
+      (other : ¬ (c ≡ newest .id)) (some-left : ¬ (q ≡ 0)) (few : q ≤ 8) (right : RightWords image newest ws) (bytes : List ℕ) (is : bytes ≡ chunkKey c)
       (s : Sought image newest 0 Text (newest .root) (keyOf Text bytes) (q - 1) f) where
     tells-by : TellsOf image newest q c (settledTold image c f)
     unfolding keyOf

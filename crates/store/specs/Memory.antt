@@ -1,13 +1,16 @@
 -- What is right of the memory of a call, and what the code's answers say of locating.
 --
---   half ws                       where the second half of the words begins: the first is for chunks, the second for stretches of items
+--   chunkWords bytes words        how many of a memory's words are for chunks, in an image of so many bytes; those after them are for
+--                                 stretches of items
 --   RightWords image newest ws    each chunk that the words hold is known: it stands there, and takes as many questions; and each
 --                                 stretch that they hold is right
 --   TellsOf, Sought               what an answer of `locate`, of `descend` says
-use Prim.Native.Nat.{ℕ, _/_, _≤_}
+use Prim.Native.Nat.{ℕ, _*_, _/_, _≤_}
 use mathlib.Core.Path.{_≡_}
+use mathlib.Core.Bool.{cond}
 use mathlib.Core.List.{List}
 use mathlib.Core.Option.{none, some}
+use lib.Dec.{ltb}
 use lib.ListN.{length, take, drop}
 use Rattle.refusal.specs.Refusal.{ok, refuse}
 use Rattle.key.specs.declared.Kind.{Kind}
@@ -24,13 +27,14 @@ use Rattle.metadata.specs.declared.Looked.{Looked}
 use Rattle.metadata.specs.declared.Looked.the-variants as looked
 use Rattle.store.specs.Store.{metadata}
 
-abbrev pub half : List ℕ → ℕ
-half ws = length ws / 2
+-- two for each block of the image, since no more chunks stand in it, but no more than seven of eight
+unfoldable pub chunkWords : ℕ → ℕ → ℕ
+chunkWords bytes words = cond (ltb (words / 8 * 7 / 2) (bytes / 4096)) (words / 8 * 7) (2 * (bytes / 4096))
 
 module _ (image : List ℕ) (newest : Chunk) where
   pub record RightWords (ws : List ℕ) : Type 0 where
-    pub known : Holds (Known (metadata image newest)) (take (half ws) ws)
-    pub stretches : Stretches image (drop (half ws) ws)
+    pub known : Holds (Known (metadata image newest)) (take (chunkWords (length image) (length ws)) ws)
+    pub stretches : Stretches image (drop (chunkWords (length image) (length ws)) ws)
 
   unfoldable pub TellsOf : ℕ → ℕ → Told → Type 0
   TellsOf q c (told.At l need) = (need ≤ q) × Known (metadata image newest) c l need

@@ -13,6 +13,7 @@ mod locate;
 mod part;
 mod passing;
 mod read;
+mod room;
 mod settle;
 mod step;
 mod trail;
@@ -58,10 +59,10 @@ pub enum Counted {
     Refused(Refusal),
 }
 
-// Half of a memory's words are for chunks. An image below so many bytes has no more than 256 blocks, and
-// so no more chunks than a memory of 1,024 words has room for. One of 16,384 has room for the chunks of
-// any image of 16 MB. A public function clears one of the two, since clearing takes time, and lends it
-// to what does the work.
+// Of a memory's words two are for each block of the image, but no more than seven of eight. An image below
+// so many bytes has no more than 256 blocks, and so no more chunks than a memory of 1,024 words has room
+// for. One of 16,384 has room for the chunks of any image of 16 MB. A public function clears one of the
+// two, since clearing takes time, and lends it to what does the work.
 pub const SMALL: usize = 1048576;
 
 // The two are made here alone, since a check takes seconds for each array that is written out.

@@ -1,7 +1,8 @@
-// Locating a chunk and a descent, which ask each other. What was located is remembered in the first half
-// of an array that the caller lends, and what was read of wide pages in the second; `q` is how many
+// Locating a chunk and a descent, which ask each other. What was located is remembered in the first words
+// of an array that the caller lends, and what was read of wide pages in the others; `q` is how many
 // questions may still be opened.
 use super::keys::number_key;
+use super::room::chunk_words;
 use super::settle::settle;
 use super::wide::advance_in;
 use key::Kind;
@@ -30,7 +31,7 @@ pub(crate) fn locate(image: &[u8], newest: Chunk, memory: &mut [u64], c: u32, q:
             need: 0,
         };
     }
-    let h = memory.len() / 2;
+    let h = chunk_words(image, memory);
     let r = memory::recall(&memory[..h], c);
     if let Recalled::At { place, need } = r {
         if q < need {
@@ -76,7 +77,7 @@ pub(crate) fn descend(
     let mut p = root;
     let mut need: u32 = 0;
     let mut left: u32 = 16;
-    let h = memory.len() / 2;
+    let h = chunk_words(image, memory);
     while 0 < left {
         if p == 0 {
             return Looked::Refused(Refusal::new(Refusal::PLACE));
