@@ -6,6 +6,8 @@ use super::SMALL;
 use super::fetch::fetch_from;
 use super::large_memory;
 use super::locate::descend;
+use super::middle_memory;
+use super::plain::is_plain;
 use super::read::read_page;
 use super::read::root_at;
 use super::small_memory;
@@ -51,6 +53,10 @@ pub fn lookup(image: &[u8], newest: Chunk, map: u32, kind: Kind, key: &[u8]) -> 
         let mut memory = small_memory();
         return lookup_with(image, newest, &mut memory, map, kind, key);
     }
+    if is_plain(image, newest) {
+        let mut memory = middle_memory();
+        return lookup_with(image, newest, &mut memory, map, kind, key);
+    }
     let mut memory = large_memory();
     lookup_with(image, newest, &mut memory, map, kind, key)
 }
@@ -79,6 +85,10 @@ pub fn index(image: &[u8], newest: Chunk, map: u32, kind: Kind, index: u64) -> F
 {
     if image.len() < SMALL {
         let mut memory = small_memory();
+        return index_with(image, newest, &mut memory, map, kind, index);
+    }
+    if is_plain(image, newest) {
+        let mut memory = middle_memory();
         return index_with(image, newest, &mut memory, map, kind, index);
     }
     let mut memory = large_memory();
@@ -137,6 +147,10 @@ pub fn count(image: &[u8], newest: Chunk, map: u32, kind: Kind) -> Counted
 {
     if image.len() < SMALL {
         let mut memory = small_memory();
+        return count_with(image, newest, &mut memory, map, kind);
+    }
+    if is_plain(image, newest) {
+        let mut memory = middle_memory();
         return count_with(image, newest, &mut memory, map, kind);
     }
     let mut memory = large_memory();

@@ -1,7 +1,7 @@
 // The examination of a map: depth first, a page's own rules before its keys, its separators before its
 // children, a child before its recorded count.
 use super::SMALL;
-use super::largest_memory;
+use super::large_memory;
 use super::read::read_page;
 use super::read::root_at;
 use super::small_memory;
@@ -205,6 +205,6 @@ pub fn examine(image: &[u8], newest: Chunk, map: u32, kind: Kind) -> Examined
         let mut memory = small_memory();
         return examine_with(image, newest, &mut memory, map, kind);
     }
-    let mut memory = largest_memory();
+    let mut memory = large_memory();
     examine_with(image, newest, &mut memory, map, kind)
 }

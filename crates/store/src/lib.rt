@@ -12,6 +12,7 @@ mod learn;
 mod locate;
 mod part;
 mod passing;
+mod plain;
 mod read;
 mod room;
 mod settle;
@@ -35,6 +36,7 @@ use metadata::Root;
 use metadata::id_by;
 use metadata::located_by;
 use opening::Chunk;
+use plain::is_plain;
 use read::root_at;
 use refusal::Refusal;
 pub use walking::advance;
@@ -59,26 +61,27 @@ pub enum Counted {
     Refused(Refusal),
 }
 
-// Of a memory's words two are for each block of the image, but no more than seven of eight. An image below
-// so many bytes has no more than 256 blocks, and so no more chunks than a memory of 1,024 words has room
-// for. One of 16,384 has room for the chunks of any image of 16 MB. A public function clears one of the
-// two, since clearing takes time, and lends it to what does the work.
+// How much memory a call has: two words for each block of the image, since no more chunks stand in it, and
+// the rest for stretches, at least one of eight. An image below so many bytes has fewer than 256 blocks, and
+// a small memory is enough for them. Where the metadata is plain, stretches are few, and a middle memory
+// has room for the chunks of 14 MiB; the large one has it for those of 84 MiB. A public function clears one
+// of the three, since clearing takes time, and lends it to what does the work.
 pub const SMALL: usize = 1048576;
 
-// The two are made here alone, since a check takes seconds for each array that is written out.
+// The three are made here alone, since a check takes seconds for each array that is written out.
 fn small_memory() -> [u64; 1024]
     ensures { λ r. ⌜ r ≡ replicate 1024 0 ⌝ }
 {
     [0u64; 1024]
 }
 
-fn large_memory() -> [u64; 16384]
-    ensures { λ r. ⌜ r ≡ replicate 16384 0 ⌝ }
+fn middle_memory() -> [u64; 8192]
+    ensures { λ r. ⌜ r ≡ replicate 8192 0 ⌝ }
 {
-    [0u64; 16384]
+    [0u64; 8192]
 }
 
-fn largest_memory() -> [u64; 49152]
+fn large_memory() -> [u64; 49152]
     ensures { λ r. ⌜ r ≡ replicate 49152 0 ⌝ }
 {
     [0u64; 49152]
@@ -96,6 +99,10 @@ pub fn chunk_place(image: &[u8], newest: Chunk, chunk: u32) -> Located
 {
     if image.len() < SMALL {
         let mut memory = small_memory();
+        return located_by(locate(image, newest, &mut memory, chunk, QUESTIONS));
+    }
+    if is_plain(image, newest) {
+        let mut memory = middle_memory();
         return located_by(locate(image, newest, &mut memory, chunk, QUESTIONS));
     }
     let mut memory = large_memory();
@@ -132,6 +139,10 @@ pub fn map_id(image: &[u8], newest: Chunk, name: &[u8]) -> Id
         let mut memory = small_memory();
         return named_with(image, newest, &mut memory, name);
     }
+    if is_plain(image, newest) {
+        let mut memory = middle_memory();
+        return named_with(image, newest, &mut memory, name);
+    }
     let mut memory = large_memory();
     named_with(image, newest, &mut memory, name)
 }
@@ -142,6 +153,10 @@ pub fn map_root(image: &[u8], newest: Chunk, map: u32) -> Root
 {
     if image.len() < SMALL {
         let mut memory = small_memory();
+        return root_at(image, newest, &mut memory, map);
+    }
+    if is_plain(image, newest) {
+        let mut memory = middle_memory();
         return root_at(image, newest, &mut memory, map);
     }
     let mut memory = large_memory();

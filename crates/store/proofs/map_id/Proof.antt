@@ -10,10 +10,16 @@ returns : tie.Need-returns
 returns c = c .before .named-with .ensures
 
 named-with-requires-2 : tie.Need-named-with-requires-2
-named-with-requires-2 c κs = empty-right _ _ 16384 (c .before .large-memory .ensures)
+named-with-requires-2 c κs = empty-right _ _ 8192 (c .before .middle-memory .ensures)
 
 returns-2 : tie.Need-returns-2
 returns-2 c = c .before .named-with2 .ensures
+
+named-with-requires-3 : tie.Need-named-with-requires-3
+named-with-requires-3 c κs = empty-right _ _ 49152 (c .before .large-memory .ensures)
+
+returns-3 : tie.Need-returns-3
+returns-3 c = c .before .named-with3 .ensures
 
 pub map-id-spec : {M : Type 1} → statement M
 map-id-spec =
@@ -24,6 +30,11 @@ map-id-spec =
     named-with-requires
     returns
     (λ c κs. search needs)
+    (λ c κs. search needs)
     (λ c. search needs)
     named-with-requires-2
-    returns-2)
+    returns-2
+    (λ c κs. search needs)
+    (λ c. search needs)
+    named-with-requires-3
+    returns-3)

@@ -10,7 +10,7 @@ returns : tie.Need-returns
 returns c = c .before .examine-with .ensures
 
 examine-with-requires-2 : tie.Need-examine-with-requires-2
-examine-with-requires-2 c κs = empty-right _ _ 49152 (c .before .largest-memory .ensures)
+examine-with-requires-2 c κs = empty-right _ _ 49152 (c .before .large-memory .ensures)
 
 returns-2 : tie.Need-returns-2
 returns-2 c = c .before .examine-with2 .ensures
