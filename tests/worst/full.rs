@@ -15,20 +15,19 @@
 //! child before the first of these that a page has is followed. The headers and the positions that
 //! are followed have the image's first bytes for themselves, which are positions to all pages.
 
-use std::collections::HashSet;
 use std::ops::Range;
 
 use super::draft::{Body, Draft, FIRST_ID};
+use super::items::Items;
 use super::overlap::{ABOVE, HEADER, NEWEST};
-use super::own::{put_root, room, write_path, WidePage, FIRST, PATH, POSITION};
+use super::own::{paths, put_root, room, WidePage, FIRST, PATH, POSITION};
 use super::{Worst, FORCES_PLAN};
 use crate::build::tree::{number_key, Entries};
 use crate::model::image::BLOCK;
 
 /// From a page's start to the next's: a header, and room for a position that is followed.
 const STEP: u64 = 24;
-/// Counts of keys jump by this, modulo the range that they can be in; the least takes three bytes.
-const JUMP: u64 = 0x9e37_79b1;
+/// The least count of keys takes three bytes.
 const LEAST: u64 = 1 << 14;
 /// The entries of a chunk's leaf, and the low byte of the leaf's length.
 const ENTRIES: u64 = 64;
@@ -44,11 +43,10 @@ pub fn full(size: usize) -> Worst {
     let leaves = numbers.iter().map(|&number| (put_leaf(&mut draft, number), ENTRIES));
     let children: Vec<(u64, u64)> = leaves.collect();
     let firsts: Vec<Vec<u8>> = numbers.iter().map(|&number| number_key(key(number, 0))).collect();
-    let pages = full.pages(&Chain::of(&draft, full.reserved, full.end));
+    let pages = full.pages(&draft);
     let forces = draft.put(NEWEST, &Body::inner(FORCES_PLAN, &children, &firsts[1..]));
     let leaf = draft.metadata(NEWEST, &numbers, forces);
-    let paths = pages.chunks(PATH).map(|path| (write_path(&mut draft, path, leaf), 1));
-    let mut ways: Vec<(u64, u64)> = paths.collect();
+    let mut ways = paths(&mut draft, &pages, leaf);
     // The map's name and root need no path: a call looks up only one of them.
     ways.push((leaf, 1));
     let root = put_root(&mut draft, &numbers, &ways);
@@ -114,20 +112,14 @@ impl Full {
 
     /// The pages of all paths, from the last to the first: a page can follow no position before it,
     /// so the later ones choose first.
-    fn pages(&self, chain: &Chain) -> Vec<WidePage> {
+    fn pages(&self, draft: &Draft) -> Vec<WidePage> {
+        let shared = self.reserved..self.end;
         // No reserved byte is a count, even of the first page.
         let least = (self.reserved / POSITION).max(LEAST);
-        let range = self.end / (POSITION + 1 + 1) - least;
-        let mut counts = (0..).map(|i: u64| least + i.wrapping_mul(JUMP) % range);
-        let mut taken = HashSet::new();
+        let counts = least..self.end / (POSITION + 1 + 1);
         let starts = (0..self.needed()).rev().map(|page| FIRST + STEP * page);
-        let pages = starts.map(|start| {
-            let tried = counts.by_ref().take(range as usize);
-            let mut read = tried.filter_map(|n| chain.page(start, n));
-            let good = |page: &WidePage| self.can_follow(page.followed());
-            read.find(|page| good(page) && taken.insert(page.followed())).expect("a good count")
-        });
-        pages.collect()
+        let items = Items::of(draft, shared.clone(), &[shared]);
+        items.pages(starts, counts, |at| self.can_follow(at))
     }
 
     /// How many pages the paths need.
@@ -141,38 +133,5 @@ impl Full {
         let step = (at - FIRST) / STEP;
         let free = step >= self.needed() || (at - FIRST) % STEP == HEADER;
         free && at + POSITION <= self.reserved
-    }
-}
-
-/// The text keys that all pages read, each from a place to where the next begins.
-struct Chain {
-    places: Vec<u32>,
-    /// The numbers of those that are greater than every key that is asked for.
-    stops: Vec<usize>,
-}
-
-impl Chain {
-    fn of(draft: &Draft, from: u64, to: u64) -> Chain {
-        let bytes = draft.written(NEWEST, from, to);
-        let mut chain = Chain { places: Vec::new(), stops: Vec::new() };
-        let mut at = 0;
-        while at < bytes.len() {
-            if bytes[at..].starts_with(ABOVE) {
-                chain.stops.push(chain.places.len());
-            }
-            chain.places.push(from as u32 + at as u32);
-            at += 1 + usize::from(bytes[at]);
-        }
-        chain
-    }
-
-    /// A page with so many keys, if a key begins where they do, and there are enough.
-    fn page(&self, start: u64, n: u64) -> Option<WidePage> {
-        let keys = start + HEADER + (POSITION + 1) * (n + 1);
-        let first = self.places.binary_search(&(keys as u32)).ok()?;
-        let end = *self.places.get(first + n as usize)?;
-        let stop = *self.stops.get(self.stops.partition_point(|&stop| stop < first))?;
-        let lead = (stop - first) as u64;
-        (lead < n).then_some(WidePage { start, n, length: u64::from(end) - start, lead })
     }
 }

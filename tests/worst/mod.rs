@@ -15,8 +15,10 @@
 //! | `each`     | such pages that are nearly as long as the image |
 //! | `aligned`  | such pages with text keys that never meet |
 //! | `spread`   | such pages whose keys lie all over the upper half of the image |
+//! | `counts`   | such pages whose recorded counts take two bytes each |
 //! | `full`     | such pages whose keys lie nearly all over the image, and chunks among the keys |
 //! | `layers`   | such pages as in `each`, and chunks behind them that need others |
+//! | `items`    | what such pages read in the bytes that they share |
 //! | `count`, `ask` | a reader that counts what a call needs |
 //! | `ways`, `runs` | what a lookup needs of a page, and a fast way to judge wide ones |
 //! | `asked`    | a call of the exports in a process of its own |
@@ -29,10 +31,12 @@ pub mod ask;
 pub mod asked;
 mod chain;
 pub mod count;
+mod counts;
 mod deep;
 mod draft;
 mod each;
 mod full;
+mod items;
 mod layers;
 mod many;
 mod metadata;
@@ -111,7 +115,7 @@ const fn longest(name: &'static str, maker: Maker) -> Named {
     Named { sizes: &[1, 4, 16, 40], short: 1024, ..named(name, maker) }
 }
 
-pub const ALL: [Named; 23] = [
+pub const ALL: [Named; 24] = [
     named("nested", nested::nested),
     slow("nested-lines", nested::long_lines),
     slow("nested-values", nested::long_values),
@@ -134,6 +138,7 @@ pub const ALL: [Named; 23] = [
     growing_most("overlap-each", each::each),
     growing_most("overlap-aligned", aligned::aligned),
     growing_most("overlap-spread", spread::spread),
+    growing_most("overlap-counts", counts::counts),
     growing_most("overlap-full", full::full),
 ];
 

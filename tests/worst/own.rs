@@ -90,29 +90,37 @@ pub fn is_free(offset: u64, length: u64) -> bool {
 }
 
 impl Layout {
-    /// The metadata has one leaf, and the map a leaf of one entry in each chunk.
-    pub fn worst(&self) -> Worst {
-        let mut draft = Draft::new(false);
-        draft.add_chunk();
-        draft.skip_to(NEWEST, FIRST);
-        draft.put_bytes(NEWEST, &self.bytes);
-        let numbers: Vec<usize> = (1..self.blocks).map(|at| draft.add_within(NEWEST, at)).collect();
-        numbers.iter().for_each(|&number| skip_to_clear(&mut draft, number));
-        let forces = scattered(&mut draft, &numbers, NEWEST, clear_key);
-        let leaf = draft.metadata(NEWEST, &numbers, forces);
-        let paths = self.paths(&mut draft, leaf);
-        let root = put_root(&mut draft, &numbers, &paths);
-        let image = draft.image(NEWEST, root);
-        let (chunks, last) = (numbers.len() as u64, numbers.len() - 1);
-        let examined = format!("report {chunks} {} 2", chunks + 1);
-        Worst::forces(image, clear_key(last), chunks - 1, &[chunks - 2, 0], examined)
+    pub fn worst(self) -> Worst {
+        worst(&self.bytes, self.blocks, |_| self.pages)
     }
+}
 
-    /// Writes the paths to a leaf: the position of each, with a count.
-    fn paths(&self, draft: &mut Draft, leaf: u64) -> Vec<(u64, u64)> {
-        assert_eq!(self.pages.len(), pages(self.blocks), "the pages of all paths");
-        self.pages.chunks(PATH).map(|path| (write_path(draft, path, leaf), 1)).collect()
-    }
+/// An image of shared bytes. The metadata has one leaf, and the map a leaf of one entry in each chunk.
+/// The pages may depend on what the chunks have in their blocks.
+pub fn worst(bytes: &[u8], blocks: u64, pages: impl FnOnce(&Draft) -> Vec<WidePage>) -> Worst {
+    let mut draft = Draft::new(false);
+    draft.add_chunk();
+    draft.skip_to(NEWEST, FIRST);
+    draft.put_bytes(NEWEST, bytes);
+    let numbers: Vec<usize> = (1..blocks).map(|at| draft.add_within(NEWEST, at)).collect();
+    numbers.iter().for_each(|&number| skip_to_clear(&mut draft, number));
+    let forces = scattered(&mut draft, &numbers, NEWEST, clear_key);
+    numbers.iter().for_each(|&number| draft.write_lines(number, EMPTY));
+    let pages = pages(&draft);
+    let leaf = draft.metadata(NEWEST, &numbers, forces);
+    let paths = paths(&mut draft, &pages, leaf);
+    assert_eq!(paths.len(), numbers.len() + 1, "the pages of all paths");
+    let root = put_root(&mut draft, &numbers, &paths);
+    let image = draft.image(NEWEST, root);
+    let (chunks, last) = (numbers.len() as u64, numbers.len() - 1);
+    let examined = format!("report {chunks} {} 2", chunks + 1);
+    Worst::forces(image, clear_key(last), chunks - 1, &[chunks - 2, 0], examined)
+}
+
+/// Writes the paths to a leaf: the position of each, with a count.
+pub fn paths(draft: &mut Draft, pages: &[WidePage], leaf: u64) -> Vec<(u64, u64)> {
+    assert_eq!(pages.len() % PATH, 0, "whole paths");
+    pages.chunks(PATH).map(|path| (write_path(draft, path, leaf), 1)).collect()
 }
 
 /// The metadata's root: a child for each chunk, and one for the map's name and root.

@@ -1,6 +1,6 @@
-//! Inner pages of the metadata, judged by runs: counts of one byte, and keys that are all the same
-//! byte, which are nearly all of a wide page, are taken together. The model would take hours for as
-//! many wide pages as the worst images have.
+//! Inner pages of the metadata, judged by runs: counts of one byte, the same count of two bytes again
+//! and again, and keys that are all the same byte, which are nearly all of a wide page, are taken
+//! together. The model would take hours for as many wide pages as the worst images have.
 
 use super::ways::{push_risen, Ways};
 use crate::model::bytes::{big_endian, part, variable};
@@ -21,6 +21,8 @@ const STRIDE: u64 = 64;
 pub struct Runs {
     /// The runs of equal bytes, each from a place to another, but for the short ones.
     equal: Vec<(u64, u64)>,
+    /// Those of two bytes again and again.
+    pairs: Vec<(u64, u64)>,
     /// For each stride, and at the image's end: the sum of the bytes before it, and how many strides
     /// from it on have no high bit set.
     clear: Vec<(u64, u64)>,
@@ -28,20 +30,8 @@ pub struct Runs {
 
 impl Runs {
     pub fn of(image: &[u8]) -> Runs {
-        let mut end = 0;
-        let runs = image.chunk_by(|byte, next| byte == next).map(|run| {
-            let at = end;
-            end += run.len() as u64;
-            (at, end)
-        });
-        let equal = runs.filter(|(at, end)| end - at >= STRIDE).collect();
-        Runs { equal, clear: clear_strides(image) }
-    }
-
-    /// How many bytes from a place on are known to be equal.
-    fn equal_from(&self, place: u64) -> u64 {
-        let i = self.equal.partition_point(|&(_, end)| end <= place);
-        self.equal.get(i).filter(|(at, _)| *at <= place).map_or(0, |(_, end)| end - place)
+        let [equal, pairs] = [1, 2].map(|period| repeated(image, period));
+        Runs { equal, pairs, clear: clear_strides(image) }
     }
 
     /// How many bytes from a place on, but at most so many, are strides without a high bit set; and
@@ -55,6 +45,26 @@ impl Runs {
         let strides = strides.min(most / STRIDE);
         (strides * STRIDE, self.clear[(first + strides) as usize].0 - before)
     }
+}
+
+/// How many bytes from a place on are known to be in a run.
+fn left_from(runs: &[(u64, u64)], place: u64) -> u64 {
+    let i = runs.partition_point(|&(_, end)| end <= place);
+    runs.get(i).filter(|(at, _)| *at <= place).map_or(0, |(_, end)| end - place)
+}
+
+/// The runs of bytes that are each equal to the one so many before, but for the short ones.
+fn repeated(image: &[u8], period: usize) -> Vec<(u64, u64)> {
+    let mut at = 0;
+    let mut runs = Vec::new();
+    for end in period..=image.len() {
+        if image.get(end) != Some(&image[end - period]) {
+            let run = (at as u64, end as u64);
+            runs.extend((run.1 - run.0 >= STRIDE).then_some(run));
+            at = end + 1 - period;
+        }
+    }
+    runs
 }
 
 fn clear_strides(image: &[u8]) -> Vec<(u64, u64)> {
@@ -130,13 +140,17 @@ impl<'a> Fields<'a, '_> {
     fn counts(&mut self, n: u64) -> Outcome<()> {
         let (mut left, mut sum) = (n, 0);
         while left > 0 {
-            let place = self.start + self.at;
-            let (length, total) = self.runs.clear_from(place, left.min(self.left()));
+            let most = left.min(self.left());
+            let (length, total) = self.runs.clear_from(self.start + self.at, most);
             self.at += length;
             sum += total;
             left -= length;
+            let (same, count) = self.twos(left);
+            self.at += 2 * same;
+            sum += same * count;
+            left -= same;
             // One by one to the next stride.
-            let more = left.min(STRIDE - place % STRIDE);
+            let more = left.min(STRIDE - (self.start + self.at) % STRIDE);
             for _ in 0..more {
                 sum += self.variable(COUNTS.saturating_sub(sum))?;
             }
@@ -144,6 +158,17 @@ impl<'a> Fields<'a, '_> {
         }
         // All that can be wrong before the last key is refused with the same number.
         (sum < COUNTS).then_some(()).ok_or(CONTENTS)
+    }
+
+    /// How many of so many counts are the same one of two bytes, if known; and that count.
+    fn twos(&self, left: u64) -> (u64, u64) {
+        match variable(self.bytes, self.at, COUNTS) {
+            Some((count, next)) if next == self.at + 2 => {
+                let equal = left_from(&self.runs.pairs, self.start + self.at).min(self.left());
+                (left.min(equal / 2), count)
+            }
+            _ => (0, 0),
+        }
     }
 
     /// The keys that are greater than all before them, each with its number.
@@ -154,7 +179,7 @@ impl<'a> Fields<'a, '_> {
             push_risen(&mut keys, self.key()?, || i);
             // Where the bytes from here on are equal, the same key comes again and again.
             let length = self.at - at;
-            let equal = self.runs.equal_from(self.start + at).min(left);
+            let equal = left_from(&self.runs.equal, self.start + at).min(left);
             let same = (equal / length).clamp(1, n - i);
             self.at = at + same * length;
             i += same;
