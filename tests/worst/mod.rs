@@ -16,6 +16,7 @@
 //! | `aligned`  | such pages with text keys that never meet |
 //! | `spread`   | such pages whose keys lie all over the upper half of the image |
 //! | `counts`   | such pages whose recorded counts take two bytes each |
+//! | `greatest` | such pages with a long key among every 700 |
 //! | `full`     | such pages whose keys lie nearly all over the image, and chunks among the keys |
 //! | `layers`   | such pages as in `each`, and chunks behind them that need others |
 //! | `items`    | what such pages read in the bytes that they share |
@@ -36,6 +37,7 @@ mod deep;
 mod draft;
 mod each;
 mod full;
+mod greatest;
 mod items;
 mod layers;
 mod many;
@@ -115,7 +117,7 @@ const fn longest(name: &'static str, maker: Maker) -> Named {
     Named { sizes: &[1, 4, 16, 40], short: 1024, ..named(name, maker) }
 }
 
-pub const ALL: [Named; 24] = [
+pub const ALL: [Named; 25] = [
     named("nested", nested::nested),
     slow("nested-lines", nested::long_lines),
     slow("nested-values", nested::long_values),
@@ -139,6 +141,7 @@ pub const ALL: [Named; 24] = [
     growing_most("overlap-aligned", aligned::aligned),
     growing_most("overlap-spread", spread::spread),
     growing_most("overlap-counts", counts::counts),
+    growing_most("overlap-greatest", greatest::greatest),
     growing_most("overlap-full", full::full),
 ];
 

@@ -16,7 +16,7 @@ const SMALL_EFFORT: Effort = Effort { times: 1, limit: Duration::from_secs(2) };
 
 pub fn print(all: &[&Named]) -> io::Result<()> {
     println!(
-        "{:<15} {:>9} {:<8} {:>9} {:>9} {:>9} {:>9} {:>9}  answer",
+        "{:<16} {:>9} {:<8} {:>9} {:>9} {:>9} {:>9} {:>9}  answer",
         "image", "bytes", "call", "questions", "pages", "bound", "MB read", "ms"
     );
     for named in all {
@@ -45,7 +45,7 @@ fn row(name: &str, worst: &Worst, question: &Question, effort: Effort) -> io::Re
     let differs = asked.as_ref().is_some_and(|asked| asked.answer != needed.to_string());
     let agrees = if differs { " (DIFFERS)" } else { "" };
     println!(
-        "{name:<15} {:>9} {:<8} {:>9} {:>9} {:>9} {:>9.1} {time:>9}  {}{agrees}",
+        "{name:<16} {:>9} {:<8} {:>9} {:>9} {:>9} {:>9.1} {time:>9}  {}{agrees}",
         worst.image.len(),
         call.name(),
         work.questions,
