@@ -1,5 +1,7 @@
 //! An image written straight into its bytes: a plan of hundreds of thousands of pages would be slow.
 
+use std::ops::Range;
+
 use crate::build::line::{LinePlan, Sum};
 use crate::build::page::{smallest_code, variable};
 use crate::build::tree::{Entries, MapPlan};
@@ -99,9 +101,15 @@ impl Draft {
 
     /// Adds a chunk of one block within another, at the block with that number there.
     pub fn add_within(&mut self, chunk: usize, block: u64) -> usize {
-        let (number, block) = (self.chunks.len(), self.chunks[chunk].block + block);
+        self.add_across(chunk, block..block + 1)
+    }
+
+    /// Adds a chunk of these blocks of another.
+    pub fn add_across(&mut self, chunk: usize, blocks: Range<u64>) -> usize {
+        let (number, block) = (self.chunks.len(), self.chunks[chunk].block + blocks.start);
         let (id, free) = (FIRST_ID + number as u64, self.newline() + 1);
-        self.chunks.push(Chunk { id, version: id, block, len: 1, next: block + 1, free });
+        let len = blocks.end - blocks.start;
+        self.chunks.push(Chunk { id, version: id, block, len, next: block + len, free });
         number
     }
 

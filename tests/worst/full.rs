@@ -26,15 +26,15 @@ use crate::build::tree::{number_key, Entries};
 use crate::model::image::BLOCK;
 
 /// From a page's start to the next's: a header, and room for a position that is followed.
-const STEP: u64 = 24;
+pub const STEP: u64 = 24;
 /// The least count of keys takes three bytes.
-const LEAST: u64 = 1 << 14;
+pub const LEAST: u64 = 1 << 14;
 /// The entries of a chunk's leaf, and the low byte of the leaf's length.
 const ENTRIES: u64 = 64;
 const LENGTH_LOW: u64 = 0x49;
 /// Where in its block a key is that is greater than those asked for, and in how many blocks one is.
-const STOP: u64 = 2048;
-const STOPS: u64 = 160;
+pub const STOP: u64 = 2048;
+pub const STOPS: u64 = 160;
 
 pub fn full(size: usize) -> Worst {
     let full = Full::new(size as u64);

@@ -20,7 +20,7 @@ use crate::model::page::DEEPEST;
 /// The chunks of the first layer: each has one of the map's pages.
 const FIRST_LAYER: usize = DEEPEST as usize;
 /// The narrow pages of a path, and how many of them a chunk has room for.
-const NARROW: usize = 2;
+pub const NARROW: usize = 2;
 const NARROW_ROOM: usize = 3;
 
 pub fn each(size: usize) -> Worst {
@@ -43,7 +43,7 @@ impl Layers<'_> {
         draft.put_bytes(NEWEST, &layout.bytes);
         let mut blocks = 1..layout.blocks;
         let mut layers: Vec<Vec<usize>> = Vec::new();
-        for width in widths(blocks.clone().count()) {
+        for width in widths(FIRST_LAYER, blocks.clone().count()) {
             let layer = blocks.by_ref().take(width);
             layers.push(layer.map(|block| draft.add_within(NEWEST, block)).collect());
         }
@@ -51,7 +51,7 @@ impl Layers<'_> {
     }
 
     fn worst(mut self) -> Worst {
-        let forces = self.forces();
+        let forces = forces(&mut self.draft, &self.layers[0]);
         let leaf = self.draft.metadata(NEWEST, &self.layers.concat(), forces);
         let mut paths = Vec::new();
         for layer in 0..self.layers.len() {
@@ -93,22 +93,24 @@ impl Layers<'_> {
             self.draft.put(chunks[page % chunks.len()], &inner)
         })
     }
-
-    /// A map of one entry at the end of a path through the first layer.
-    fn forces(&mut self) -> u64 {
-        let chunks = &self.layers[0];
-        let leaf = Body::leaf(FORCES_PLAN, &[(number_key(7), vec![7; 24])]);
-        let lowest = self.draft.put(chunks[FIRST_LAYER - 1], &leaf);
-        chunks[..FIRST_LAYER - 1].iter().rev().fold(lowest, |next, &chunk| {
-            self.draft.put(chunk, &Body::inner(FORCES_PLAN, &[(next, 1)], &[]))
-        })
-    }
 }
 
-/// How many chunks each layer has, as long as there are enough for the narrow pages.
-fn widths(chunks: usize) -> Vec<usize> {
-    let mut widths = vec![FIRST_LAYER];
-    let mut left = chunks - FIRST_LAYER;
+/// A map of one entry at the end of a path through the chunks of the first layer.
+pub fn forces(draft: &mut Draft, chunks: &[usize]) -> u64 {
+    let (last, others) = chunks.split_last().expect("a chunk");
+    let leaf = Body::leaf(FORCES_PLAN, &[(number_key(7), vec![7; 24])]);
+    let lowest = draft.put(*last, &leaf);
+    others
+        .iter()
+        .rev()
+        .fold(lowest, |next, &chunk| draft.put(chunk, &Body::inner(FORCES_PLAN, &[(next, 1)], &[])))
+}
+
+/// How many chunks each layer has, the first so many, as long as there are enough for the narrow
+/// pages.
+pub fn widths(first: usize, chunks: usize) -> Vec<usize> {
+    let mut widths = vec![first];
+    let mut left = chunks - first;
     while widths.len() < QUESTIONS as usize {
         let pages = NARROW * widths[widths.len() - 1];
         if NARROW_ROOM * left < pages {

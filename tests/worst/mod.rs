@@ -19,6 +19,7 @@
 //! | `greatest` | such pages with a long key among every 700 |
 //! | `full`     | such pages whose keys lie nearly all over the image, and chunks among the keys |
 //! | `layers`   | such pages as in `each`, and chunks behind them that need others |
+//! | `zones`    | such pages and chunks as in `full`, and chunks that need others |
 //! | `items`    | what such pages read in the bytes that they share |
 //! | `count`, `ask` | a reader that counts what a call needs |
 //! | `ways`, `runs` | what a lookup needs of a page, and a fast way to judge wide ones |
@@ -53,6 +54,7 @@ mod spread;
 pub mod table;
 mod ways;
 mod wide;
+mod zones;
 
 use crate::build::tree::MapPlan;
 use crate::family::questions::{find, state, FORCES};
@@ -117,12 +119,13 @@ const fn longest(name: &'static str, maker: Maker) -> Named {
     Named { sizes: &[1, 4, 16, 40], short: 1024, ..named(name, maker) }
 }
 
-pub const ALL: [Named; 25] = [
+pub const ALL: [Named; 26] = [
     named("nested", nested::nested),
     slow("nested-lines", nested::long_lines),
     slow("nested-values", nested::long_values),
     growing("nested-wide", nested::wide_inner),
     growing("nested-each", layers::each),
+    growing("nested-full", zones::nested),
     growing("wide-metadata", metadata::wide_leaf),
     longest("chain", chain::chain),
     longest("chain-lines", chain::long_lines),
