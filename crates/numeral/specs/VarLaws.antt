@@ -4,7 +4,7 @@
 --   Inside from to r   the place after r lies between the two, if it is a number
 --   VarRead            what a caller knows of a number that was read
 use Prim.Native.Nat.{ℕ, suc, _+_, _*_, _-_, _/_, _^_, _<_, _≤_}
-use mathlib.Core.Path.{_≡_, refl}
+use mathlib.Core.Path.{_≡_, refl, _∙_, ap}
 use mathlib.Core.Bool.{Bool, true, false, cond}
 use mathlib.Core.List.{List, [], _∷_}
 use native.Mathlib.Numerals.{add-one}
@@ -91,6 +91,20 @@ varAt-fits limit low s i h l =
     go : (r : Numeral) → Below limit r → Fits64 r
     go (Read v next) b = omega arith
     go Bad b = tt
+
+-- ## A number whose second byte is the last
+module _ (limit : ℕ) (s : List ℕ) (i : ℕ) (h : i + 1 < length s) (l : getD s i 0 < limit) (a : 128 ≤ getD s i 0)
+    (b : getD s (i + 1) 0 < 128) (m : getD s (i + 1) 0 < (limit - (getD s i 0 - 128) - 1) / 128 + 1) where
+  second : varAt ((limit - (getD s i 0 - 128) - 1) / 128 + 1) s (i + 1) ≡ Read (getD s (i + 1) 0) (i + 2)
+  second =
+      varAt-last ((limit - (getD s i 0 - 128) - 1) / 128 + 1) s (i + 1) h m b
+      ∙ ap (λ (n : ℕ). Read (getD s (i + 1) 0) n) (omega arith)
+
+  pub varAt-pair : varAt limit s i ≡ continued (getD s i 0 - 128) (Read (getD s (i + 1) 0) (i + 2))
+  varAt-pair = varAt-more limit s i (omega arith) l a ∙ rw second
+
+  pub pair-fits : limit ≤ 2 ^ 64 → Fits64 (continued (getD s i 0 - 128) (Read (getD s (i + 1) 0) (i + 2)))
+  pair-fits few = rw (← second) (varAt-fits limit (getD s i 0 - 128) s (i + 1) (omega arith) few)
 
 abbrev Inside : ℕ → ℕ → Numeral → Type 0
 Inside low high (Read v next) = (low < next) × (next ≤ high)

@@ -23,7 +23,8 @@ fn join(low: u64, rest: Numeral) -> Numeral
 }
 
 // The number at `at`, if it is below `limit`. What follows the first byte has its own limit, which
-// falls to 1 after ten bytes at most: no run of bytes makes this long.
+// falls to 1 after ten bytes at most: no run of bytes makes this long. A number of two bytes takes no
+// further call.
 fn any_var(s: &[u8], at: usize, limit: u64) -> Numeral
     ensures { λ r. ⌜ r ≡ varAt limit (now (s .entry)) at ⌝ }
 {
@@ -41,7 +42,20 @@ fn any_var(s: &[u8], at: usize, limit: u64) -> Numeral
         };
     }
     let low = b - 128;
-    join(low, any_var(s, at + 1, (limit - low - 1) / 128 + 1))
+    let rest = (limit - low - 1) / 128 + 1;
+    if at + 1 < s.len() {
+        let c = s[at + 1] as u64;
+        if c < 128 {
+            if c < rest {
+                let last = Numeral::Read {
+                    value: c,
+                    next: at + 2,
+                };
+                return join(low, last);
+            }
+        }
+    }
+    join(low, any_var(s, at + 1, rest))
 }
 
 // The same. Most numbers have one byte, and those take no further call.
