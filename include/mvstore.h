@@ -15,9 +15,8 @@
  * 2. No state. Nothing is allocated, kept or global; there is no handle and
  *    nothing to close. Each call opens the image itself, so what it answers
  *    depends on its arguments alone, and calls may run at the same time in
- *    several threads, on the same image too. A call uses less than 192 KiB
- *    of stack, mvstore_examine less than 448 KiB, and no heap: a thread that
- *    is made with less must ask for it.
+ *    several threads, on the same image too. A call uses less than 448 KiB
+ *    of stack and no heap: a thread that is made with less must ask for it.
  *
  * 3. Answers come back by value. `refusal` is 0 where there is an answer; then
  *    the other members hold it. Otherwise `refusal` is one of the numbers below

@@ -1,13 +1,12 @@
 /* stack.c - how much stack each export takes.
  *
- *   stack LIMIT EXAMINE STORE...
+ *   stack LIMIT STORE...
  *
  * An export answers all questions in a thread of its own, over a painted stack:
  * every entry of map `forces` and of the metadata of each store, and every map
  * of the small store, whose questions nest deepest. The use is how far below
  * the thread's first frame the paint is gone; `nothing` shows what of it is the
- * thread's own. The exit status is 1 if a use is above LIMIT bytes, or the
- * examination's above EXAMINE bytes.
+ * thread's own. The exit status is 1 if a use is above LIMIT bytes.
  */
 #define _GNU_SOURCE
 #include <pthread.h>
@@ -164,7 +163,7 @@ static size_t use_of(run *r)
     return use;
 }
 
-static int report(const list *l, size_t limit, size_t examine_limit)
+static int report(const list *l, size_t limit)
 {
     const struct {
         const char *name;
@@ -180,26 +179,21 @@ static int report(const list *l, size_t limit, size_t examine_limit)
         run r = {exports[i].ask, l, NULL};
         size_t use = use_of(&r);
         printf(", %s %zu", exports[i].name, use);
-        above |= use > (exports[i].ask == ask_examine ? examine_limit : limit);
+        above |= use > limit;
     }
     printf(" bytes\n");
     return above;
 }
 
-static size_t bytes_of(const char *digits)
-{
-    return (size_t)strtoull(digits, NULL, 10);
-}
-
 int main(int argc, char **argv)
 {
     list l = {NULL, 0};
-    if (argc < 3)
-        return fprintf(stderr, "usage: stack LIMIT EXAMINE STORE...\n"), 2;
+    if (argc < 2)
+        return fprintf(stderr, "usage: stack LIMIT STORE...\n"), 2;
     add_small(&l, small_store());
-    for (int i = 3; i < argc; i++)
+    for (int i = 2; i < argc; i++)
         add_store(&l, lent_file(argv[i]));
-    int above = report(&l, bytes_of(argv[1]), bytes_of(argv[2]));
+    int above = report(&l, (size_t)strtoull(argv[1], NULL, 10));
     free(l.questions);
     return above;
 }
