@@ -22,5 +22,6 @@ pub mod TallyLaws
 pub mod CameLaws
 pub mod Passing
 pub mod PassingLaws
+pub mod FirstLaws
 pub mod WidePageLaws
 pub mod WideHeadLaws

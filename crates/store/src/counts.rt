@@ -18,7 +18,9 @@ use stretch::Stretch;
 ghost use mathlib.Core.Path.{_≡_};
 ghost use mathlib.Core.Bool.{true};
 ghost use Prim.Native.Nat.{_+_, _<_, _≤_, _^_, _%_};
-ghost use Rattle.item.specs.Item.{counted};
+ghost use lib.ListN.{length};
+ghost use Rattle.numeral.specs.Var.{varAt};
+ghost use Rattle.item.specs.Item.{countLimit, counted};
 ghost use Rattle.item.specs.CountLaws.{countedFrom};
 ghost use Rattle.stretch.specs.Stretch.{Stretches};
 ghost use Rattle.store.specs.Passing.{SummedOf, SummedUpTo};
@@ -49,6 +51,36 @@ pub enum Summed {
     Stuck,
 }
 
+fn wide(b: u8) -> u64
+    ensures { λ r. ⌜ (r ≡ b) × (r < 256) ⌝ }
+{
+    b as u64
+}
+
+// The recorded count of two bytes at `i`; 0 where there is none. No call for it, which would take longer.
+fn two_bytes(image: &[u8], i: usize) -> u64
+    ensures { λ r. ⌜ (0 < r → (i + 2 ≤ length (now (image .entry))) × (varAt countLimit (now (image .entry)) i ≡ Numeral.Read r (i + 2))) ⌝ }
+{
+    if image.len() < 2 {
+        return 0;
+    }
+    if image.len() - 2 < i {
+        return 0;
+    }
+    let a = wide(image[i]);
+    let b = wide(image[i + 1]);
+    if a < 128 {
+        return 0;
+    }
+    if b == 0 {
+        return 0;
+    }
+    if 128 <= b {
+        return 0;
+    }
+    b * 128 + (a - 128)
+}
+
 // Eight of `n` counts from `i` on, if each has one byte; else one. `total` is the sum before.
 fn next_counts(image: &[u8], n: u64, i: usize, total: u64, most: u32) -> Summed
     requires { ⌜ (0 < most) × (most ≤ n) × (total < 2 ^ 48) ⌝ }
@@ -64,6 +96,16 @@ fn next_counts(image: &[u8], n: u64, i: usize, total: u64, most: u32) -> Summed
                     next: i + 8,
                 };
             }
+        }
+    }
+    let two = two_bytes(image, i);
+    if 0 < two {
+        if two < COUNT_LIMIT - total {
+            return Summed::To {
+                left: n - 1,
+                sum: total + two,
+                next: i + 2,
+            };
         }
     }
     let v = numeral::read_var(image, i, COUNT_LIMIT);

@@ -1,10 +1,10 @@
 // Far stretches, which are made of near ones.
+use super::compare::compare_at;
+use super::compare::is_less;
 use super::trail::is_full;
 use item::COUNT_LIMIT;
 use item::Form;
-use key::Kind;
 use key::Sized;
-use order::Order;
 use stretch::COUNTS;
 use stretch::FAR;
 use stretch::Stretch;
@@ -12,20 +12,9 @@ use stretch::TEXTS;
 use stretch::VALUES;
 ghost use mathlib.Core.Path.{_≡_};
 ghost use Prim.Native.Nat.{_+_, _<_, _^_, _%_};
-ghost use Rattle.order.specs.Order.{isLess};
 ghost use Rattle.stretch.specs.Stretch.{Texts, Values, Counts, StretchOf, Stretches};
 
-pub(crate) fn is_less(o: Order) -> bool
-    ensures { λ r. ⌜ r ≡ isLess o ⌝ }
-{
-    match o {
-        Order::Less => true,
-        Order::Equal => false,
-        Order::Greater => false,
-    }
-}
-
-// Two stretches as one.
+// Two stretches as one, with the place or the sum of both.
 fn joined_with(a: Stretch, b: Stretch, more: u64) -> Stretch
     requires { ⌜ a .count + b .count < 2 ^ 32 ⌝ }
     ensures { λ r. ⌜ (r .count ≡ a .count + b .count) × (r .next ≡ b .next) × (r .more ≡ more) ⌝ }
@@ -61,7 +50,7 @@ fn join_texts(image: &[u8], at: usize, a: Stretch, b: Stretch) -> Stretch
     else {
         return a;
     };
-    let o = key::compare(Kind::Text, &image[first..end], &image[second..next]);
+    let o = compare_at(image, first, end, &image[second..next]);
     if is_less(o) {
         return joined_with(a, b, b.more);
     }

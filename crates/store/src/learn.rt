@@ -1,8 +1,8 @@
 // Text keys that are read anew.
-use super::join::is_less;
+use super::compare::compare_at;
+use super::compare::is_less;
 use super::trail::next_start;
 use item::Form;
-use key::Kind;
 use key::Sized;
 use stretch::Stretch;
 use stretch::TEXTS;
@@ -27,7 +27,7 @@ fn one_more(image: &[u8], at: usize, g: Grown, key: usize, len: usize, next: usi
     let s = g.s;
     let from = g.from;
     let to = g.to;
-    let o = key::compare(Kind::Text, &image[from..to], &image[key..next]);
+    let o = compare_at(image, from, to, &image[key..next]);
     if is_less(o) {
         let t = Stretch {
             count: s.count + 1,

@@ -2,6 +2,7 @@
 // asked of a map. Locating a chunk asks the metadata, whose pages stand in chunks that may have to be
 // located first.
 mod ask;
+mod compare;
 mod counts;
 mod down;
 mod examining;

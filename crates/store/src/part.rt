@@ -40,7 +40,7 @@ fn rest_of(image: &[u8], s: Stretch, at: usize, i: usize) -> Stretch
     }
 }
 
-// What follows from `i` on of a stretch that began before it, where nothing was passed since.
+// What follows from `i` on of the last stretch that begins before it: the one before the number `index`.
 fn begun_before(image: &[u8], marks: &[u64], index: usize, i: usize) -> Stretch
     requires { ⌜ Stretches (now image) (now marks) ⌝ }
     ensures { λ r. ⌜ (0 < r .count → Texts (now (image .entry)) i (r .count) (r .next) (r .more)) ⌝ }
@@ -57,7 +57,8 @@ fn begun_before(image: &[u8], marks: &[u64], index: usize, i: usize) -> Stretch
     )
 }
 
-// The stretch of at most `left` text keys that a pass can take from `i` on.
+// The stretch of at most `left` text keys that a pass can take from `i` on, where the next one that begins has the
+// number `index`.
 pub(crate) fn met_texts(image: &[u8], marks: &[u64], index: usize, i: usize, left: u32) -> Stretch
     requires { ⌜ Stretches (now image) (now marks) ⌝ }
     ensures { λ r. ⌜ (r .count ≤ left) × (0 < r .count → Texts (now (image .entry)) i (r .count) (r .next) (r .more)) ⌝ }

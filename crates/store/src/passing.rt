@@ -1,4 +1,5 @@
 // A pass over text keys with a lookup's key.
+use super::compare::compare_at;
 use super::learn::read_texts;
 use super::part::met_texts;
 use super::trail::after_leap;
@@ -51,7 +52,7 @@ fn passes_all(image: &[u8], i: usize, s: Stretch, key: &[u8], leaf: bool) -> boo
     let Sized::At { at, len: _, next } = it else {
         return false;
     };
-    let o = key::compare(Kind::Text, &image[at..next], key);
+    let o = compare_at(image, at, next, key);
     is_passed(o, leaf)
 }
 
@@ -223,7 +224,7 @@ fn lead_past(image: &[u8], s: Stretch, p: Passing, key: &[u8], leaf: bool) -> Pa
         let Sized::At { at, len: _, next } = it else {
             return led_to(p, count, j);
         };
-        let o = key::compare(Kind::Text, &image[at..next], key);
+        let o = compare_at(image, at, next, key);
         if is_passed(o, leaf) {} else {
             return led_to(p, count, j);
         }

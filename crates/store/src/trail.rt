@@ -63,11 +63,11 @@ pub(crate) fn near_most(image: &[u8], marks: &[u64], form: u32, left: u32) -> u3
     n
 }
 
-// Where a near stretch ends at the latest that begins at `i`: items of more than so many bytes take more
-// time, and counts of more than one.
+// Where a near stretch ends at the latest that begins at `i`: items of more than 32 bytes take more time, and
+// so do counts of more than one.
 pub(crate) fn near_end(image: &[u8], marks: &[u64], form: u32, i: usize) -> usize {
     if stretch::PLACES <= i {
-        return i;
+        return stretch::NOWHERE;
     }
     let n = near_items(image, marks, form) as usize;
     if form % 4 == stretch::COUNTS {
@@ -81,6 +81,7 @@ pub(crate) fn next_start(marks: &[u64], form: u32, i: usize) -> usize {
     stretch::begins_at(marks, stretch::seek(marks, form, i), form)
 }
 
+// The same, after `i`.
 pub(crate) fn start_after(marks: &[u64], form: u32, i: usize) -> usize {
     if stretch::PLACES <= i {
         return stretch::NOWHERE;
@@ -127,7 +128,8 @@ fn make_room(image: &[u8], marks: &mut [u64])
     }
 }
 
-// Whether so many items from `at` on, up to `next`, make a near stretch.
+// Whether so many items from `at` on, up to `next`, make a near stretch. A quarter of its items is enough where
+// no stretch before covers them: pages that each begin a little earlier would read them again and again.
 pub(crate) fn is_near(
     image: &[u8],
     marks: &[u64],
@@ -136,6 +138,9 @@ pub(crate) fn is_near(
     count: u32,
     next: usize,
 ) -> bool {
+    if stretch::PLACES <= at {
+        return false;
+    }
     let n = near_items(image, marks, form);
     if n <= count {
         return true;
@@ -157,7 +162,7 @@ fn is_covered(marks: &[u64], form: u32, i: usize) -> bool {
     at < i && i < s.next
 }
 
-// Remembers a near stretch of a form from `at` on.
+// Remembers a stretch of a form from `at` on, where it makes a near one.
 pub(crate) fn keep_near(image: &[u8], marks: &mut [u64], form: u32, at: usize, s: Stretch)
     requires { ⌜ Stretches (now image) (now marks) × StretchOf (now image) form at s ⌝ }
     ensures { λ _. ⌜ Stretches (now (image .entry)) (now (marks .exit)) ⌝ }

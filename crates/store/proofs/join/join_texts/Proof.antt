@@ -9,39 +9,33 @@ use borrow.Author.Needs.{needs}
 use Rattle.store.proofs.join.join_texts.Statement.{statement}
 use Rattle.store.proofs.join.join_texts.Tie as tie
 
-sub-compare : tie.Need-sub-compare
-sub-compare c = omega (arith, item-lies _ Bytes _ (sym (c .before .before .before .before .before .before .before .item-at .ensures) ∙ c .before .before .before .before .before .x .given .1) .ends)
+sub-compare-at : tie.Need-sub-compare-at
+sub-compare-at c = omega (arith, item-lies _ Bytes _ (sym (c .before .before .before .item-at2 .ensures) ∙ c .before .y .given .1) .ends)
 
-part-compare-start : tie.Need-part-compare-start
-part-compare-start c = omega (arith, item-lies _ Bytes _ (sym (c .before .before .before .before .before .before .before .item-at .ensures) ∙ c .before .before .before .before .before .x .given .1) .ends)
+part-compare-at-start : tie.Need-part-compare-at-start
+part-compare-at-start c = omega (arith, item-lies _ Bytes _ (sym (c .before .before .before .item-at2 .ensures) ∙ c .before .y .given .1) .ends)
 
-part-compare-end : tie.Need-part-compare-end
-part-compare-end c = omega (arith, item-lies _ Bytes _ (sym (c .before .before .before .before .before .before .before .item-at .ensures) ∙ c .before .before .before .before .before .x .given .1) .inside)
+part-compare-at-end : tie.Need-part-compare-at-end
+part-compare-at-end c = omega (arith, item-lies _ Bytes _ (sym (c .before .before .before .item-at2 .ensures) ∙ c .before .y .given .1) .inside)
 
-sub-compare-2 : tie.Need-sub-compare-2
-sub-compare-2 c = omega (arith, item-lies _ Bytes _ (sym (c .before .before .before .before .item-at2 .ensures) ∙ c .before .before .y .given .1) .ends)
-
-part-compare-start-2 : tie.Need-part-compare-start-2
-part-compare-start-2 c = omega (arith, item-lies _ Bytes _ (sym (c .before .before .before .before .item-at2 .ensures) ∙ c .before .before .y .given .1) .ends)
-
-part-compare-end-2 : tie.Need-part-compare-end-2
-part-compare-end-2 c = omega (arith, item-lies _ Bytes _ (sym (c .before .before .before .before .item-at2 .ensures) ∙ c .before .before .y .given .1) .inside)
+compare-at-requires : tie.Need-compare-at-requires
+compare-at-requires c κs = let l = item-lies _ Bytes _ (sym (c .before .before .before .before .before .before .before .before .item-at .ensures) ∙ c .before .before .before .before .before .before .x .given .1) in (omega (arith, l .ends), l .inside)
 
 returns-3 : tie.Need-returns-3
 returns-3 c =
-    let p = c .before .before .before .before .before .before .before .before .before .before .before .before .before .before .before .pre in
-    let x = key-by-length _ _ (p .0 .stands) (sym (c .before .before .before .before .before .before .before .before .before .before .before .before .before .item-at .ensures) ∙ c .before .before .before .before .before .before .before .before .before .before .before .x .given .1) in
-    let y = key-by-length _ _ (p .1 .stands) (sym (c .before .before .before .before .before .before .before .before .before .item-at2 .ensures) ∙ c .before .before .before .before .before .before .before .y .given .1) in
-    let o : compareKeys (p .0 .greatest) (p .1 .greatest) ≡ c .before .before .before .compare .result = cc (x, y, c .before .before .before .compare .ensures) in
+    let p = c .before .before .before .before .before .before .before .before .before .before .before .before .before .before .pre in
+    let x = key-by-length _ _ (p .0 .stands) (sym (c .before .before .before .before .before .before .before .before .before .before .before .before .item-at .ensures) ∙ c .before .before .before .before .before .before .before .before .before .before .x .given .1) in
+    let y = key-by-length _ _ (p .1 .stands) (sym (c .before .before .before .before .before .before .before .before .item-at2 .ensures) ∙ c .before .before .before .before .before .before .y .given .1) in
+    let o : compareKeys (p .0 .greatest) (p .1 .greatest) ≡ c .before .before .before .compare-at .result = cc (x, y, c .before .before .before .compare-at .ensures) in
     let j = c .joined-with .ensures in
     rw (j .0, j .1, j .2) (join-less (p .0) (p .1) (rw (o, ← (c .before .before .is-less .ensures)) (c .before .if1 .taken)))
 
 returns-4 : tie.Need-returns-4
 returns-4 c =
-    let p = c .before .before .before .before .before .before .before .before .before .before .before .before .before .before .before .pre in
-    let x = key-by-length _ _ (p .0 .stands) (sym (c .before .before .before .before .before .before .before .before .before .before .before .before .before .item-at .ensures) ∙ c .before .before .before .before .before .before .before .before .before .before .before .x .given .1) in
-    let y = key-by-length _ _ (p .1 .stands) (sym (c .before .before .before .before .before .before .before .before .before .item-at2 .ensures) ∙ c .before .before .before .before .before .before .before .y .given .1) in
-    let o : compareKeys (p .0 .greatest) (p .1 .greatest) ≡ c .before .before .before .compare .result = cc (x, y, c .before .before .before .compare .ensures) in
+    let p = c .before .before .before .before .before .before .before .before .before .before .before .before .before .before .pre in
+    let x = key-by-length _ _ (p .0 .stands) (sym (c .before .before .before .before .before .before .before .before .before .before .before .before .item-at .ensures) ∙ c .before .before .before .before .before .before .before .before .before .before .x .given .1) in
+    let y = key-by-length _ _ (p .1 .stands) (sym (c .before .before .before .before .before .before .before .before .item-at2 .ensures) ∙ c .before .before .before .before .before .before .y .given .1) in
+    let o : compareKeys (p .0 .greatest) (p .1 .greatest) ≡ c .before .before .before .compare-at .result = cc (x, y, c .before .before .before .compare-at .ensures) in
     let j = c .joined-with2 .ensures in
     rw (j .0, j .1, j .2) (join-keep (p .0) (p .1) (rw (o, ← (c .before .before .is-less .ensures)) (c .before .if1 .left)))
 
@@ -57,13 +51,10 @@ join-texts-spec =
     (λ c. search needs)
     (λ c. search needs)
     (λ c. search needs)
-    sub-compare
-    part-compare-start
-    part-compare-end
-    sub-compare-2
-    part-compare-start-2
-    part-compare-end-2
-    (λ c κs. search needs)
+    sub-compare-at
+    part-compare-at-start
+    part-compare-at-end
+    compare-at-requires
     (λ c κs. search needs)
     (λ c κs. search needs)
     returns-3

@@ -17,7 +17,9 @@ use Rattle.store.proofs.passing.lead_past.Statement.{statement}
 use Rattle.store.proofs.passing.lead_past.Tie as tie
 
 abbrev Inv-loop : tie.InvT-loop
-Inv-loop image s p key leaf count₀ j₀ count j = (count ≤ s .count) × (skipped image Text count (p .i) ≡ Past j) × Texts image j (s .count - count) (s .next) (s .more) × (keysOf image leaf (keyOf kind.Text key) (ledTo p count j) ≡ keysOf image leaf (keyOf kind.Text key) p)
+Inv-loop image s p key leaf count₀ j₀ count j =
+    (count ≤ s .count) × (skipped image Text count (p .i) ≡ Past j) × Texts image j (s .count - count) (s .next) (s .more) ×
+    (keysOf image leaf (keyOf kind.Text key) (ledTo p count j) ≡ keysOf image leaf (keyOf kind.Text key) p)
 
 abbrev μ-loop : tie.MeasureT-loop
 μ-loop image s p key leaf count₀ j₀ count j = s .count - count
@@ -33,25 +35,19 @@ loop-holds c =
 returns-2 : tie.Need-returns-2 Inv-loop μ-loop
 returns-2 c = let i = c .before .before .before .before .before .before .loop .inv in rw (c .led-to .ensures) (gone _ _ _ _ (c .before .before .before .before .before .before .before .before .before .before .pre .0) (omega arith) (omega arith) (i .1) (i .3))
 
-sub-compare : tie.Need-sub-compare Inv-loop μ-loop
-sub-compare c = omega (arith, item-lies _ Bytes _ (sym (c .before .before .before .item-at .ensures) ∙ c .before .it .given .1) .ends)
-
-part-compare-start : tie.Need-part-compare-start Inv-loop μ-loop
-part-compare-start c = omega (arith, item-lies _ Bytes _ (sym (c .before .before .before .item-at .ensures) ∙ c .before .it .given .1) .ends)
-
-part-compare-end : tie.Need-part-compare-end Inv-loop μ-loop
-part-compare-end c = omega (arith, item-lies _ Bytes _ (sym (c .before .before .before .item-at .ensures) ∙ c .before .it .given .1) .inside)
+compare-at-requires : tie.Need-compare-at-requires Inv-loop μ-loop
+compare-at-requires c κs = let l = item-lies _ Bytes _ (sym (c .before .before .before .item-at .ensures) ∙ c .before .it .given .1) in (omega (arith, l .ends), l .inside)
 
 returns-3 : tie.Need-returns-3 Inv-loop μ-loop
-returns-3 c = let i = c .before .before .before .before .before .before .before .before .before .before .before .loop .inv in rw (c .led-to2 .ensures) (gone _ _ _ _ (c .before .before .before .before .before .before .before .before .before .before .before .before .before .before .before .pre .0) (omega arith) (omega arith) (i .1) (i .3))
+returns-3 c = let i = c .before .before .before .before .before .before .before .before .before .before .loop .inv in rw (c .led-to2 .ensures) (gone _ _ _ _ (c .before .before .before .before .before .before .before .before .before .before .before .before .before .before .pre .0) (omega arith) (omega arith) (i .1) (i .3))
 
 loop-again : tie.Need-loop-again Inv-loop μ-loop
 loop-again c =
-    let i = c .before .before .before .before .before .before .before .before .before .before .loop .inv in
-    let e = sym (c .before .before .before .before .before .before .before .item-at .ensures ∙ texts-item (i .2) (omega arith)) ∙ c .before .before .before .before .before .it .given .1 in
+    let i = c .before .before .before .before .before .before .before .before .before .loop .inv in
+    let e = sym (c .before .before .before .before .before .before .item-at .ensures ∙ texts-item (i .2) (omega arith)) ∙ c .before .before .before .before .it .given .1 in
     let one = skipped-item _ Text _ e in
-    let f = rw (c .before .before .compare .ensures) at (sym (c .before .is-passed .ensures) ∙ c .if3 .taken) in
-    (omega arith, skipped-join _ _ _ 1 _ (i .1) one, texts-as (texts-rest (i .2) (omega arith) one) _ (omega arith), led-on _ _ _ _ (c .before .before .before .before .before .before .before .before .before .before .before .before .before .before .pre .0) (c .before .before .before .before .before .before .before .before .before .before .before .if1 .taken) _ _ (omega arith) e f (i .3))
+    let f = rw (c .before .before .compare-at .ensures) at (sym (c .before .is-passed .ensures) ∙ c .if3 .taken) in
+    (omega arith, skipped-join _ _ _ 1 _ (i .1) one, texts-as (texts-rest (i .2) (omega arith) one) _ (omega arith), led-on _ _ _ _ (c .before .before .before .before .before .before .before .before .before .before .before .before .before .pre .0) (c .before .before .before .before .before .before .before .before .before .before .if1 .taken) _ _ (omega arith) e f (i .3))
 
 returns-4 : tie.Need-returns-4 Inv-loop μ-loop
 returns-4 c = let i = c .before .before .before .loop .inv in rw (c .led-to3 .ensures) (gone _ _ _ _ (c .before .before .before .before .before .before .before .pre .0) (omega arith) (omega arith) (i .1) (i .3))
@@ -69,10 +65,7 @@ lead-past-spec =
     (λ c. search needs)
     (λ c κs. search needs)
     returns-2
-    sub-compare
-    part-compare-start
-    part-compare-end
-    (λ c κs. search needs)
+    compare-at-requires
     (λ c κs. search needs)
     (λ c κs. search needs)
     returns-3

@@ -1,9 +1,7 @@
 use mathlib.Core.Path.{_≡_, sym, _∙_}
-use mathlib.Core.Bool.{true}
 use native.Mathlib.Omega.{arith}
 use Rattle.item.specs.declared.Form.the-variants.{Bytes}
 use Rattle.item.specs.ItemLaws.{item-lies}
-use Rattle.stretch.specs.Led.{passes}
 use Rattle.stretch.specs.PartLaws.{key-by-length}
 use Rattle.stretch.specs.LedLaws.{greatest-passes}
 use Rattle.stretch.specs.JoinLaws.{false-true}
@@ -14,20 +12,14 @@ use Rattle.store.proofs.passing.passes_all.Tie as tie
 returns : tie.Need-returns
 returns c = λ e. absurd (false-true e)
 
-sub-compare : tie.Need-sub-compare
-sub-compare c = omega (arith, item-lies _ Bytes _ (sym (c .before .before .before .item-at .ensures) ∙ c .before .it .given .1) .ends)
-
-part-compare-start : tie.Need-part-compare-start
-part-compare-start c = omega (arith, item-lies _ Bytes _ (sym (c .before .before .before .item-at .ensures) ∙ c .before .it .given .1) .ends)
-
-part-compare-end : tie.Need-part-compare-end
-part-compare-end c = omega (arith, item-lies _ Bytes _ (sym (c .before .before .before .item-at .ensures) ∙ c .before .it .given .1) .inside)
+compare-at-requires : tie.Need-compare-at-requires
+compare-at-requires c κs = let l = item-lies _ Bytes _ (sym (c .before .before .before .item-at .ensures) ∙ c .before .it .given .1) in (omega (arith, l .ends), l .inside)
 
 returns-2 : tie.Need-returns-2
 returns-2 c =
     λ e.
-    let k = key-by-length _ _ (c .before .before .before .before .before .before .before .before .before .pre .stands) (sym (c .before .before .before .before .before .before .item-at .ensures) ∙ c .before .before .before .before .it .given .1) in
-    greatest-passes (c .before .before .before .before .before .before .before .before .before .pre) _ _ (rw (← k, ← (c .before .compare .ensures), ← (c .is-passed .ensures)) e)
+    let k = key-by-length _ _ (c .before .before .before .before .before .before .before .before .pre .stands) (sym (c .before .before .before .before .before .item-at .ensures) ∙ c .before .before .before .it .given .1) in
+    greatest-passes (c .before .before .before .before .before .before .before .before .pre) _ _ (rw (← k, ← (c .before .compare-at .ensures), ← (c .is-passed .ensures)) e)
 
 pub passes-all-spec : {M : Type 1} → statement M
 passes-all-spec =
@@ -37,9 +29,6 @@ passes-all-spec =
     (λ c. search needs)
     (λ c. search needs)
     returns
-    sub-compare
-    part-compare-start
-    part-compare-end
-    (λ c κs. search needs)
+    compare-at-requires
     (λ c κs. search needs)
     returns-2)
