@@ -1,5 +1,6 @@
 //! `worst` prints the table of the worst images; `worst NAME` the rows of one; `worst NAME MB FILE`
-//! writes that one of so many MB; `worst --short` is their part of the short run. `worst --ask
+//! writes that one of so many MB; `worst --times` prints the times of all at 16 MB alone, which
+//! takes a minute; `worst --short` is their part of the short run. `worst --ask
 //! TIMES QUESTION` is the process of one call.
 
 #[cfg(archive)]
@@ -13,6 +14,7 @@ fn main() -> std::io::Result<std::process::ExitCode> {
     let named = |name: &str| ALL.iter().find(|named| named.name == name).expect("an image's name");
     match words[..] {
         [] => table::print(&ALL.iter().collect::<Vec<&Named>>())?,
+        ["--times"] => table::times()?,
         ["--short"] if !short::run()? => return Ok(ExitCode::FAILURE),
         ["--short"] => {}
         ["--ask", times, question] => asked::answer(times, question)?,
@@ -21,7 +23,7 @@ fn main() -> std::io::Result<std::process::ExitCode> {
             let megabytes: usize = size.parse().expect("a size in MB");
             fs::write(file, (named(name).maker)(megabytes * MEGABYTE).image)?;
         }
-        _ => panic!("usage: worst [NAME | NAME MB FILE | --short | --ask TIMES QUESTION]"),
+        _ => panic!("usage: worst [NAME | NAME MB FILE | --times | --short | --ask TIMES QUESTION]"),
     }
     Ok(ExitCode::SUCCESS)
 }

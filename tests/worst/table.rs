@@ -5,12 +5,14 @@ use std::time::Duration;
 
 use super::ask::ask;
 use super::asked::{asked, Effort};
-use super::{Named, Worst, MEGABYTE};
+use super::{Named, Worst, ALL, MEGABYTE};
 use crate::model::image::BLOCK;
 use crate::model::page::DEEPEST;
 use crate::subject::{Call, Question};
 
 const EFFORT: Effort = Effort { times: 3, limit: Duration::from_secs(20) };
+/// The size of an image, in MB, for which a second is promised.
+const LARGEST: usize = 16;
 /// Where another call about the same image took longer.
 const SMALL_EFFORT: Effort = Effort { times: 1, limit: Duration::from_secs(2) };
 
@@ -30,6 +32,27 @@ pub fn print(all: &[&Named]) -> io::Result<()> {
             }
         }
     }
+    Ok(())
+}
+
+/// Prints the processor time of each call alone, at the size for which a second is promised.
+pub fn times() -> io::Result<()> {
+    let mut slowest = (0.0, String::new());
+    for named in &ALL {
+        let worst = (named.maker)(LARGEST * MEGABYTE);
+        print!("{:<16}", named.name);
+        for question in worst.questions() {
+            let asked = asked(&worst.image, &question, EFFORT)?;
+            let seconds = asked.map_or(f64::INFINITY, |asked| asked.seconds);
+            print!(" {} {:.0} ms", question.call().name(), seconds * 1e3);
+            if seconds > slowest.0 {
+                slowest = (seconds, format!("{} {}", named.name, question.call().name()));
+            }
+        }
+        println!();
+        io::stdout().flush()?;
+    }
+    println!("the slowest: {} {:.0} ms", slowest.1, slowest.0 * 1e3);
     Ok(())
 }
 
