@@ -23,7 +23,9 @@ fn main() -> std::io::Result<std::process::ExitCode> {
             let megabytes: usize = size.parse().expect("a size in MB");
             fs::write(file, (named(name).maker)(megabytes * MEGABYTE).image)?;
         }
-        _ => panic!("usage: worst [NAME | NAME MB FILE | --times | --short | --ask TIMES QUESTION]"),
+        _ => {
+            panic!("usage: worst [NAME | NAME MB FILE | --times | --short | --ask TIMES QUESTION]")
+        }
     }
     Ok(ExitCode::SUCCESS)
 }

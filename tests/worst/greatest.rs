@@ -12,10 +12,10 @@
 //!
 //! The chunks are in all but the last two.
 
-use super::draft::{push_text, Draft};
-use super::items::Items;
-use super::overlap::{ABOVE, HEADER};
-use super::own::{self, is_free, last_start, WidePage, FIRST, POSITION, STEP};
+use super::bands::Bands;
+use super::draft::push_text;
+use super::overlap::ABOVE;
+use super::own::{self, FIRST, POSITION};
 use super::Worst;
 use crate::model::image::BLOCK;
 use crate::model::key::LONGEST_KEY;
@@ -31,65 +31,24 @@ const COUNTED: u64 = (POSITION + 1) * 100;
 const CHILD: u64 = COUNTED + KEY;
 
 pub fn greatest(size: usize) -> Worst {
-    let greatest = Greatest::new(size as u64);
-    own::worst(&greatest.bytes(), greatest.blocks, |draft| greatest.pages(draft))
+    let size = size as u64;
+    // All keys of a page that ends with the room could begin there; some begin a little before.
+    let blocks = own::room(size, size / BLOCK) * COUNTED / CHILD * 98 / 100 / BLOCK;
+    let bands = Bands::new(size, FIRST, blocks, COUNTED);
+    bands.worst(&bytes(&bands), bands.end * 100 / CHILD)
 }
 
-/// The shared bytes, by their offsets in the newest chunk.
-struct Greatest {
-    /// The chunks are in the blocks before this one, where the keys of all pages begin.
-    blocks: u64,
-    /// No page begins after this.
-    last: u64,
-    /// The least count of keys.
-    least: u64,
-    end: u64,
-}
-
-impl Greatest {
-    fn new(size: u64) -> Greatest {
-        let room = own::room(size, size / BLOCK);
-        // All keys of a page that ends with the room could begin there; some begin a little before.
-        let blocks = room * COUNTED / CHILD * 98 / 100 / BLOCK;
-        // In a small image more starts than usual may not be free: there is room for some paths more.
-        let last = last_start(FIRST, blocks + 8);
-        let least = (blocks * BLOCK - last) * 100 / COUNTED;
-        Greatest { blocks, last, least, end: own::room(size, blocks) }
+/// Zeros, then empty keys and long ones, and among them the one that stops a lookup.
+fn bytes(bands: &Bands) -> Vec<u8> {
+    let mut some = vec![0; EMPTY_KEYS];
+    push_text(&mut some, &[LONG, &vec![b' '; LONGEST_KEY as usize - LONG.len()]].concat());
+    let mut bytes = vec![0; (bands.keys() - FIRST) as usize];
+    let stop = bands.least * KEY * 9 / 1000 / some.len() as u64;
+    bytes.extend(some.repeat(stop as usize));
+    bytes.extend(ABOVE);
+    while bytes.len() < (bands.end - FIRST) as usize {
+        bytes.extend(&some);
     }
-
-    fn keys(&self) -> u64 {
-        self.blocks * BLOCK
-    }
-
-    fn bytes(&self) -> Vec<u8> {
-        let mut some = vec![0; EMPTY_KEYS];
-        push_text(&mut some, &[LONG, &vec![b' '; LONGEST_KEY as usize - LONG.len()]].concat());
-        let mut bytes = vec![0; (self.keys() - FIRST) as usize];
-        let stop = self.least * KEY * 9 / 1000 / some.len() as u64;
-        bytes.extend(some.repeat(stop as usize));
-        bytes.extend(ABOVE);
-        while bytes.len() < (self.end - FIRST) as usize {
-            bytes.extend(&some);
-        }
-        bytes.truncate((self.end - FIRST) as usize);
-        bytes
-    }
-
-    fn pages(&self, draft: &Draft) -> Vec<WidePage> {
-        let items = Items::of(draft, self.counts()..self.end, &[self.keys()..self.end]);
-        let starts = (FIRST..=self.last).step_by(STEP as usize);
-        let starts = starts.filter(|&start| is_free(start, HEADER)).take(own::pages(self.blocks));
-        items.pages(starts, self.least..self.end * 100 / CHILD, |at| self.can_follow(at))
-    }
-
-    /// Where the counts of the first page begin, if it has the least count of keys.
-    fn counts(&self) -> u64 {
-        FIRST + HEADER + POSITION * (self.least + 1)
-    }
-
-    /// Whether a position can be followed: behind all headers, before all counts and in no chunk.
-    fn can_follow(&self, at: u64) -> bool {
-        let behind = at >= self.last + HEADER;
-        behind && at + POSITION <= self.counts() && is_free(at, POSITION)
-    }
+    bytes.truncate((bands.end - FIRST) as usize);
+    bytes
 }

@@ -21,6 +21,7 @@
 //! | `layers`   | such pages as in `each`, and chunks behind them that need others |
 //! | `zones`    | such pages and chunks as in `full`, and chunks that need others |
 //! | `items`    | what such pages read in the bytes that they share |
+//! | `bands`    | such bytes in bands: headers, positions, counts, keys |
 //! | `count`, `ask` | a reader that counts what a call needs |
 //! | `ways`, `runs` | what a lookup needs of a page, and a fast way to judge wide ones |
 //! | `asked`    | a call of the exports in a process of its own |
@@ -31,6 +32,7 @@ mod aligned;
 pub mod ask;
 #[cfg(archive)]
 pub mod asked;
+mod bands;
 mod chain;
 pub mod count;
 mod counts;
