@@ -6,7 +6,6 @@ use numeral::Numeral;
 ghost use mathlib.Core.Path.{_≡_};
 ghost use lib.ListN.{getD, getElem?};
 ghost use Rattle.item.specs.Step.{upTo};
-ghost use Rattle.item.specs.Eight.{isShort, eightAt};
 ghost use Rattle.item.specs.Item.{itemAt, items, countAt, spotOf, skipped, counted};
 
 // How an item is written: 8 bytes; a text key; a length and bytes.
@@ -128,39 +127,6 @@ pub fn nth_item(s: &[u8], form: Form, n: u64, at: usize, k: u64) -> Sized
         return Sized::Bad;
     };
     item_at(s, form, i)
-}
-
-// Whether a recorded count has one byte, by its first. No branch, as in `text`.
-fn is_short(b: u8) -> bool
-    ensures { λ r. ⌜ r ≡ isShort b ⌝ }
-{
-    b < 128
-}
-
-// No sum of eight counts of one byte.
-pub const NO_SUM: u64 = 1024;
-
-// The sum of the eight recorded counts at a place, if each of them has one byte.
-pub fn eight_counts(s: &[u8], at: usize) -> u64
-    ensures { λ r. ⌜ r ≡ eightAt (now (s .entry)) at ⌝ }
-{
-    if s.len() < 8 {
-        return NO_SUM;
-    }
-    if s.len() - 8 < at {
-        return NO_SUM;
-    }
-    let low = is_short(s[at]) & is_short(s[at + 1]) & is_short(s[at + 2]) & is_short(s[at + 3]);
-    let high = is_short(s[at + 4])
-        & is_short(s[at + 5])
-        & is_short(s[at + 6])
-        & is_short(s[at + 7]);
-    if low & high {
-        let first = s[at] as u64 + s[at + 1] as u64 + s[at + 2] as u64 + s[at + 3] as u64;
-        let last = s[at + 4] as u64 + s[at + 5] as u64 + s[at + 6] as u64 + s[at + 7] as u64;
-        return first + last;
-    }
-    NO_SUM
 }
 
 // The sum of `n` recorded counts, each of which keeps it below 2^48, and the place after them.

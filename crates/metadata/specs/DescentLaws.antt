@@ -1,6 +1,6 @@
 -- Laws of one page of a descent, one for each way that the code takes. s is the image up to the page's end.
 use Prim.Native.Nat.{ℕ, _+_, max}
-use mathlib.Core.Path.{_≡_, _∙_}
+use mathlib.Core.Path.{_≡_, _∙_, ap}
 use mathlib.Core.List.{List}
 use mathlib.Core.Option.{Option, none, some}
 use native.Mathlib.Omega.{arith}
@@ -18,10 +18,8 @@ use Rattle.content.specs.declared.Found.the-variants as found
 use Rattle.content.specs.Content.{Entry, keysIn, positionsIn, countsIn, entriesIn, foundOf, pageOf, pageIn}
 use Rattle.metadata.specs.declared.Told.{Told}
 use Rattle.metadata.specs.declared.Told.the-variants as told
-use Rattle.metadata.specs.declared.Looked.the-variants as looked
 use Rattle.metadata.specs.declared.descent.Step.{Step}
 use Rattle.metadata.specs.declared.descent.Step.the-variants as step
-use Rattle.metadata.specs.declared.descent.Advance.the-variants.{Done}
 use Rattle.metadata.specs.Descent.{foundStep, stepOf, advanceBy, advanceOf}
 
 found-step : (o : Option Entry) {at len : ℕ} → foundOf o ≡ found.At at len → foundStep o ≡ step.Found at len
@@ -61,14 +59,10 @@ module _ (image : List ℕ) (c : Place) (p map : ℕ) (kind : Kind) (k : Key) wh
 
 -- ## A descent after it
 pub advance-refused : (s : Place → Step) (need : ℕ) {l : Told} {r : Refusal} → l ≡ told.Refused r
-    → Done (looked.Refused r) ≡ advanceOf s need l
-unfolding advanceOf
-advance-refused s need e = rw e
+    → advanceOf s need l ≡ advanceOf s need (told.Refused r)
+advance-refused s need e = ap (advanceOf s need) e
 
-pub advance-told : (s : Place → Step) (need : ℕ) {l : Told} {x : Place} {n : ℕ} {t : Step} → l ≡ told.At x n → t ≡ s x
-    → advanceBy (max need n) t ≡ advanceOf s need l
+pub advance-step : (s : Place → Step) (need : ℕ) {l : Told} {x : Place} {n : ℕ} (most : ℕ) {t : Step} → l ≡ told.At x n
+    → most ≡ max need n → s x ≡ t → advanceOf s need l ≡ advanceBy most t
 unfolding advanceOf
-advance-told s need e f = rw (e, f)
-
-pub advance-step : (need n most : ℕ) {s t : Step} → most ≡ max need n → s ≡ t → advanceBy most t ≡ advanceBy (max need n) s
-advance-step need n most i f = rw (i, f)
+advance-step s need most e i f = rw (e, i, f)

@@ -1,16 +1,16 @@
 // One page of a descent, and a descent after it.
 use super::Looked;
+use super::Told;
 use content::Found;
 use key::Kind;
 use page::Judged;
 use page::Place;
 use position::Position;
 use refusal::Refusal;
-ghost use Prim.Native.Nat.{max};
 ghost use mathlib.Core.Path.{_≡_};
 ghost use Rattle.key.specs.Key.{keyOf};
 ghost use Rattle.content.specs.Content.{pageIn};
-ghost use Rattle.metadata.specs.Descent.{stepOf, advanceBy};
+ghost use Rattle.metadata.specs.Descent.{stepOf, advanceOf};
 
 // One page of a descent: the child to go on at, or what a leaf or a refusal answers.
 pub enum Step {
@@ -27,7 +27,7 @@ pub enum Advance {
 }
 
 // What the page at position `p` of a located chunk answers a lookup of `key`.
-pub fn step_at(image: &[u8], place: Place, p: u64, map: u32, kind: Kind, key: &[u8]) -> Step
+fn step_at(image: &[u8], place: Place, p: u64, map: u32, kind: Kind, key: &[u8]) -> Step
     ensures { λ r. ⌜ r ≡ stepOf (keyOf kind (now (key .entry))) (pageIn (now (image .entry)) place p map kind) ⌝ }
 {
     let j = page::judge(image, place, Position { bits: p }, map, kind);
@@ -60,22 +60,36 @@ pub fn step_at(image: &[u8], place: Place, p: u64, map: u32, kind: Kind, key: &[
     }
 }
 
-// A descent after a page that answers `s`, which took `need` so far and `n` for the page.
-pub fn advance_by(s: Step, need: u32, n: u32) -> Advance
-    ensures { λ r. ⌜ r ≡ advanceBy (max need n) s ⌝ }
+// A descent after the page at `p`, whose chunk `l` tells of; `need` is what it took so far.
+pub fn advance_at(
+    image: &[u8],
+    l: Told,
+    need: u32,
+    p: u64,
+    map: u32,
+    kind: Kind,
+    key: &[u8],
+) -> Advance
+    ensures { λ r. ⌜ r ≡ advanceOf (λ x. stepOf (keyOf kind (now (key .entry))) (pageIn (now (image .entry)) x p map kind)) need l ⌝ }
 {
-    let most = if need < n { n } else { need };
-    match s {
-        Step::Child(c) => Advance::To {
-            position: c,
-            need: most,
-        },
-        Step::Found { at, len } => Advance::Done(Looked::Found {
-            at,
-            len,
-            need: most,
-        }),
-        Step::Absent => Advance::Done(Looked::Absent { need: most }),
-        Step::Refused(r) => Advance::Done(Looked::Refused(r)),
+    match l {
+        Told::Refused(r) => Advance::Done(Looked::Refused(r)),
+        Told::At { place, need: n } => {
+            let most = if need < n { n } else { need };
+            let s = step_at(image, place, p, map, kind, key);
+            match s {
+                Step::Child(c) => Advance::To {
+                    position: c,
+                    need: most,
+                },
+                Step::Found { at, len } => Advance::Done(Looked::Found {
+                    at,
+                    len,
+                    need: most,
+                }),
+                Step::Absent => Advance::Done(Looked::Absent { need: most }),
+                Step::Refused(r) => Advance::Done(Looked::Refused(r)),
+            }
+        }
     }
 }

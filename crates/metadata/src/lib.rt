@@ -4,8 +4,7 @@ mod descent;
 
 pub use descent::Advance;
 pub use descent::Step;
-pub use descent::advance_by;
-pub use descent::step_at;
+pub use descent::advance_at;
 use line::Fields;
 use numeral::Number;
 use opening::Chunk;

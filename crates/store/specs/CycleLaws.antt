@@ -4,10 +4,9 @@
 --   sought-X, came-X        what a descent answers; where it has come to
 use Prim.Native.Nat.{ℕ, zero, suc, _-_, _≤_, _<_, max}
 use mathlib.Core.Path.{_≡_, refl, _∙_, ap}
-use mathlib.Core.List.{List, _++_}
+use mathlib.Core.List.{List}
 use mathlib.Core.Option.{Option, none, some}
 use native.Mathlib.Omega.{arith}
-use lib.ListN.{length, take, drop}
 use Rattle.refusal.specs.declared.Refusal.{Refusal}
 use Rattle.refusal.specs.Refusal.{Outcome, ok, refuse, ninthQuestion, outOfPlace, tooDeep}
 use Rattle.key.specs.declared.Kind.{Kind}
@@ -24,7 +23,7 @@ use Rattle.opening.specs.declared.chunk.Chunk.{Chunk}
 use Rattle.page.specs.declared.Place.{Place}
 use Rattle.content.specs.Content.{Entry, pageIn}
 use Rattle.memory.specs.declared.Recalled.the-variants as recalled
-use Rattle.memory.specs.Words.{recalledIn, Holds}
+use Rattle.memory.specs.Words.{recalledIn}
 use Rattle.metadata.specs.declared.Told.{Told}
 use Rattle.metadata.specs.declared.Told.the-variants as told
 use Rattle.metadata.specs.declared.Looked.{Looked}
@@ -33,8 +32,9 @@ use Rattle.metadata.specs.declared.descent.Advance.{Advance}
 use Rattle.metadata.specs.declared.descent.Advance.the-variants.{To, Done}
 use Rattle.metadata.specs.Answers.{placeOf}
 use Rattle.store.specs.Store.{metadata, chunkKey}
-use Rattle.store.specs.Memory.{chunkWords, RightWords, TellsOf, Sought}
-use Rattle.store.specs.MemoryLaws.{recalled-known, right-front}
+use Rattle.store.specs.Memory.{RightWords}
+use Rattle.store.specs.Memory.{TellsOf, Sought}
+use Rattle.store.specs.MemoryLaws.{recalled-known}
 use Rattle.store.specs.SettleLaws.{settled-tells, settled-right}
 use Rattle.metadata.specs.Descent.{foundStep, stepOf, advanceBy, advanceOf}
 use Rattle.store.specs.Steps.{settledTold, settledWords}
@@ -50,19 +50,18 @@ module _ (image : List ℕ) (newest : Chunk) where
     unfolding TellsOf
     tells-ninth other e i = rw (e, i) (ninth-refused (metadata image newest) other)
 
-    module _ {ws : List ℕ} (right : RightWords image newest ws) (h : ℕ) (at : h ≡ chunkWords (length image) (length ws))
-        {l : Place} {n : ℕ} (e : recalledIn (take h ws) c ≡ recalled.At l n) where
+    module _ {ws : List ℕ} (right : RightWords image newest ws) {l : Place} {n : ℕ} (e : recalledIn ws c ≡ recalled.At l n) where
       pub tells-few : q < n → {r : Refusal} → r ≡ ninthQuestion → TellsOf image newest q c (told.Refused r)
       unfolding TellsOf
-      tells-few m i = rw i (gated-shut (recalled-known image newest right h at c e) q m)
+      tells-few h i = rw i (gated-shut (recalled-known image newest right c e) q h)
 
       pub tells-recalled : n ≤ q → TellsOf image newest q c (told.At l n)
       unfolding TellsOf
-      tells-recalled m = (m, recalled-known image newest right h at c e)
+      tells-recalled h = (h, recalled-known image newest right c e)
 
   -- by the metadata's answer, and the memory after it
-  module _ (q c : ℕ) (ws : List ℕ) (h : ℕ) (at : h ≡ chunkWords (length image) (length ws)) (f : Looked)
-      (other : ¬ (c ≡ newest .id)) (some-left : ¬ (q ≡ 0)) (few : q ≤ 8) (right : RightWords image newest ws) (bytes : List ℕ) (is : bytes ≡ chunkKey c)
+  module _ (q c : ℕ) (ws : List ℕ) (f : Looked) (other : ¬ (c ≡ newest .id)) (some-left : ¬ (q ≡ 0)) (few : q ≤ 8)
+      (right : RightWords image newest ws) (bytes : List ℕ) (is : bytes ≡ chunkKey c)
       (s : Sought image newest 0 Text (newest .root) (keyOf Text bytes) (q - 1) f) where
     tells-by : TellsOf image newest q c (settledTold image c f)
     unfolding keyOf
@@ -70,12 +69,9 @@ module _ (image : List ℕ) (newest : Chunk) where
         let e : suc (q - 1) ≡ q = omega arith in
         rw e at (settled-tells image newest c (q - 1) other f (rw is at s))
 
-    pub tells-settled : (t : Told) (zs : List ℕ) → t ≡ settledTold image c f → zs ≡ settledWords c (take h ws) t
-        → length zs ≡ length (take h ws) → RightWords image newest (zs ++ drop h ws) × TellsOf image newest q c t
-    tells-settled t zs e d n =
-        let known : Holds (Known (metadata image newest)) zs =
-        rw (d, e) (settled-right image newest c q (take h ws) (rw at (right .known)) (omega arith) f tells-by) in
-        (right-front image newest right h at zs n known, rw e tells-by)
+    pub tells-settled : (t : Told) (zs : List ℕ) → t ≡ settledTold image c f → zs ≡ settledWords c ws t
+        → RightWords image newest zs × TellsOf image newest q c t
+    tells-settled t zs e d = (rw (d, e) (settled-right image newest c q right (omega arith) f tells-by), rw e tells-by)
 
   -- ## A descent
   module _ (map : ℕ) (kind : Kind) (root : ℕ) (k : Key) (q : ℕ) where

@@ -20,8 +20,3 @@ pub mod WalkedLaws
 pub mod ExamineLaws
 pub mod TallyLaws
 pub mod CameLaws
-pub mod Passing
-pub mod PassingLaws
-pub mod FirstLaws
-pub mod WidePageLaws
-pub mod WideHeadLaws

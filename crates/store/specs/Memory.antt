@@ -1,17 +1,11 @@
 -- What is right of the memory of a call, and what the code's answers say of locating.
 --
---   chunkWords bytes words        how many of a memory's words are for chunks, in an image of so many bytes; those after them are for
---                                 stretches of items
---   RightWords image newest ws    each chunk that the words hold is known: it stands there, and takes as many questions; and each
---                                 stretch that they hold is right
+--   RightWords image newest ws    each chunk that the words hold is known: it stands there, and takes as many questions
 --   TellsOf, Sought               what an answer of `locate`, of `descend` says
-use Prim.Native.Nat.{ℕ, _*_, _/_, _≤_}
+use Prim.Native.Nat.{ℕ, _≤_}
 use mathlib.Core.Path.{_≡_}
-use mathlib.Core.Bool.{cond}
 use mathlib.Core.List.{List}
 use mathlib.Core.Option.{none, some}
-use lib.Dec.{ltb}
-use lib.ListN.{length, take, drop}
 use Rattle.refusal.specs.Refusal.{ok, refuse}
 use Rattle.key.specs.declared.Kind.{Kind}
 use Rattle.key.specs.Key.{Key}
@@ -20,21 +14,15 @@ use Rattle.content.specs.Content.{Entry, pageIn}
 use Rattle.locating.specs.Locating.{located}
 use Rattle.locating.specs.Known.{Gated, Known, askedIn}
 use Rattle.memory.specs.Words.{Holds}
-use Rattle.stretch.specs.Stretch.{Stretches}
 use Rattle.metadata.specs.declared.Told.{Told}
 use Rattle.metadata.specs.declared.Told.the-variants as told
 use Rattle.metadata.specs.declared.Looked.{Looked}
 use Rattle.metadata.specs.declared.Looked.the-variants as looked
 use Rattle.store.specs.Store.{metadata}
 
--- two for each block of the image, since no more chunks stand in it, but no more than seven of eight
-unfoldable pub chunkWords : ℕ → ℕ → ℕ
-chunkWords bytes words = cond (ltb (words / 8 * 7 / 2) (bytes / 4096)) (words / 8 * 7) (2 * (bytes / 4096))
-
 module _ (image : List ℕ) (newest : Chunk) where
   pub record RightWords (ws : List ℕ) : Type 0 where
-    pub known : Holds (Known (metadata image newest)) (take (chunkWords (length image) (length ws)) ws)
-    pub stretches : Stretches image (drop (chunkWords (length image) (length ws)) ws)
+    pub known : Holds (Known (metadata image newest)) ws
 
   unfoldable pub TellsOf : ℕ → ℕ → Told → Type 0
   TellsOf q c (told.At l need) = (need ≤ q) × Known (metadata image newest) c l need

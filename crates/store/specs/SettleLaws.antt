@@ -21,16 +21,14 @@ use Rattle.opening.specs.ChainLaws.{kept-told}
 use Rattle.key.specs.declared.Kind.{Kind}
 use Rattle.key.specs.declared.Kind.the-variants.{Text}
 use Rattle.key.specs.Key.{Key, text}
-use Rattle.locating.specs.Known.{Known}
 use Rattle.locating.specs.StepLaws.{asked-refused, placed-refused, placed-known}
-use Rattle.memory.specs.Words.{Holds}
-use Rattle.memory.specs.WordsLaws.{remembered-holds}
 use Rattle.metadata.specs.declared.Looked.{Looked}
 use Rattle.metadata.specs.declared.Looked.the-variants as looked
 use Rattle.metadata.specs.Answers.{bytesAt, placeOf, standingBy, needOf}
 use Rattle.store.specs.Store.{chunkKey, metadata}
-use Rattle.store.specs.Memory.{TellsOf, Sought}
+use Rattle.store.specs.Memory.{RightWords, TellsOf, Sought}
 use Rattle.store.specs.Steps.{toldBy, settledTold, settledWords}
+use Rattle.store.specs.MemoryLaws.{remembered-right}
 
 module _ (image : List ℕ) (n : ℕ) (v : Spot) {c : Chunk} (e : standingBy image n v ≡ Stands c) where
   pub standing-stood : Stood image c
@@ -75,10 +73,9 @@ module _ (image : List ℕ) (newest : Chunk) (c q : ℕ) where
         go Nothing i = placed-refused (metadata image newest) other g q h (rw (is, i))
         go (Stands k) i = (omega arith, rw add-one (placed-known (metadata image newest) other g (rw (is, i))))
 
-  -- the words for chunks
-  module _ (ws : List ℕ) (right : Holds (Known (metadata image newest)) ws) (few : q < 16) where
+  module _ {ws : List ℕ} (right : RightWords image newest ws) (few : q < 16) where
     pub settled-right : (f : Looked) → TellsOf image newest q c (settledTold image c f) →
-        Holds (Known (metadata image newest)) (settledWords c ws (settledTold image c f))
+        RightWords image newest (settledWords c ws (settledTold image c f))
     unfolding TellsOf settledTold settledWords
     settled-right (looked.Refused r) t = right
     settled-right (looked.Absent need) t = right
@@ -88,8 +85,8 @@ module _ (image : List ℕ) (newest : Chunk) (c q : ℕ) where
         v = record { at = at; len = len }
 
         go : (s : Standing) → standingBy image c v ≡ s → TellsOf image newest q c (toldBy need s) →
-            Holds (Known (metadata image newest)) (settledWords c ws (toldBy need s))
+            RightWords image newest (settledWords c ws (toldBy need s))
         go Nothing e t = right
         go (Stands k) e t =
             let held = standing-held image c v e in
-            remembered-holds (Known (metadata image newest)) c (placeOf k) (need + 1) (held .0) (held .1) (omega (arith, t .0)) ws right (t .1)
+            remembered-right image newest right c (placeOf k) (need + 1) (held .0) (held .1) (omega (arith, t .0)) (t .1)

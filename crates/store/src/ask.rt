@@ -4,13 +4,9 @@ use super::Fetched;
 use super::QUESTIONS;
 use super::SMALL;
 use super::fetch::fetch_from;
-use super::large_memory;
 use super::locate::descend;
-use super::middle_memory;
-use super::plain::is_plain;
 use super::read::read_page;
 use super::read::root_at;
-use super::small_memory;
 use key::Kind;
 use metadata::Root;
 use metadata::Value;
@@ -50,14 +46,10 @@ pub fn lookup(image: &[u8], newest: Chunk, map: u32, kind: Kind, key: &[u8]) -> 
     ensures { λ r. ⌜ r ≡ valueOf (lookupIn (now (image .entry)) newest map kind (keyOf kind (now (key .entry)))) ⌝ }
 {
     if image.len() < SMALL {
-        let mut memory = small_memory();
+        let mut memory = [0u64; 512];
         return lookup_with(image, newest, &mut memory, map, kind, key);
     }
-    if is_plain(image, newest) {
-        let mut memory = middle_memory();
-        return lookup_with(image, newest, &mut memory, map, kind, key);
-    }
-    let mut memory = large_memory();
+    let mut memory = [0u64; 8192];
     lookup_with(image, newest, &mut memory, map, kind, key)
 }
 
@@ -84,14 +76,10 @@ pub fn index(image: &[u8], newest: Chunk, map: u32, kind: Kind, index: u64) -> F
     ensures { λ r. ⌜ r ≡ fetchedOf (indexIn (now (image .entry)) newest map kind index) ⌝ }
 {
     if image.len() < SMALL {
-        let mut memory = small_memory();
+        let mut memory = [0u64; 512];
         return index_with(image, newest, &mut memory, map, kind, index);
     }
-    if is_plain(image, newest) {
-        let mut memory = middle_memory();
-        return index_with(image, newest, &mut memory, map, kind, index);
-    }
-    let mut memory = large_memory();
+    let mut memory = [0u64; 8192];
     index_with(image, newest, &mut memory, map, kind, index)
 }
 
@@ -146,13 +134,9 @@ pub fn count(image: &[u8], newest: Chunk, map: u32, kind: Kind) -> Counted
     ensures { λ r. ⌜ r ≡ countedOf (countIn (now (image .entry)) newest map kind) ⌝ }
 {
     if image.len() < SMALL {
-        let mut memory = small_memory();
+        let mut memory = [0u64; 512];
         return count_with(image, newest, &mut memory, map, kind);
     }
-    if is_plain(image, newest) {
-        let mut memory = middle_memory();
-        return count_with(image, newest, &mut memory, map, kind);
-    }
-    let mut memory = large_memory();
+    let mut memory = [0u64; 8192];
     count_with(image, newest, &mut memory, map, kind)
 }

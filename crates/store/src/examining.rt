@@ -1,10 +1,8 @@
 // The examination of a map: depth first, a page's own rules before its keys, its separators before its
 // children, a child before its recorded count.
 use super::SMALL;
-use super::large_memory;
 use super::read::read_page;
 use super::read::root_at;
-use super::small_memory;
 use key::Kind;
 use metadata::Root;
 use opening::Chunk;
@@ -202,9 +200,9 @@ pub fn examine(image: &[u8], newest: Chunk, map: u32, kind: Kind) -> Examined
     ensures { λ r. ⌜ r ≡ examinedOf (examineIn (now (image .entry)) newest map kind) ⌝ }
 {
     if image.len() < SMALL {
-        let mut memory = small_memory();
+        let mut memory = [0u64; 512];
         return examine_with(image, newest, &mut memory, map, kind);
     }
-    let mut memory = large_memory();
+    let mut memory = [0u64; 8192];
     examine_with(image, newest, &mut memory, map, kind)
 }

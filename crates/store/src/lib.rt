@@ -2,26 +2,14 @@
 // asked of a map. Locating a chunk asks the metadata, whose pages stand in chunks that may have to be
 // located first.
 mod ask;
-mod compare;
-mod counts;
 mod down;
 mod examining;
 mod fetch;
-mod join;
 mod keys;
-mod learn;
 mod locate;
-mod part;
-mod passing;
-mod plain;
 mod read;
-mod room;
 mod settle;
-mod step;
-mod trail;
-mod values;
 mod walking;
-mod wide;
 
 pub use ask::count;
 pub use ask::index;
@@ -37,12 +25,10 @@ use metadata::Root;
 use metadata::id_by;
 use metadata::located_by;
 use opening::Chunk;
-use plain::is_plain;
 use read::root_at;
 use refusal::Refusal;
 pub use walking::advance;
 ghost use mathlib.Core.Path.{_≡_};
-ghost use lib.ListN.{replicate};
 ghost use Rattle.metadata.specs.Answers.{placeSaid, idSaid, rootSaid};
 ghost use Rattle.store.specs.Store.{chunkAt, namedMap, mapRoot};
 ghost use Rattle.store.specs.Memory.{RightWords};
@@ -62,31 +48,10 @@ pub enum Counted {
     Refused(Refusal),
 }
 
-// How much memory a call has: two words for each block of the image, since no more chunks stand in it, and
-// the rest for stretches, at least one of eight. An image below so many bytes has fewer than 256 blocks, and
-// a small memory is enough for them. Where the metadata is plain, stretches are few, and a middle memory
-// has room for the chunks of 14 MiB; the large one has it for those of 84 MiB. A public function clears one
-// of the three, since clearing takes time, and lends it to what does the work.
+// An image below so many bytes has no more than 256 blocks, and so no more chunks than a memory of 512
+// words has room for. One of 8,192 has room for the chunks of any image of 16 MB. A public function
+// clears one of the two, since clearing takes time, and lends it to what does the work.
 pub const SMALL: usize = 1048576;
-
-// The three are made here alone, since a check takes seconds for each array that is written out.
-fn small_memory() -> [u64; 1024]
-    ensures { λ r. ⌜ r ≡ replicate 1024 0 ⌝ }
-{
-    [0u64; 1024]
-}
-
-fn middle_memory() -> [u64; 8192]
-    ensures { λ r. ⌜ r ≡ replicate 8192 0 ⌝ }
-{
-    [0u64; 8192]
-}
-
-fn large_memory() -> [u64; 49152]
-    ensures { λ r. ⌜ r ≡ replicate 49152 0 ⌝ }
-{
-    [0u64; 49152]
-}
 
 // How many questions may be open at once.
 pub const QUESTIONS: u32 = 8;
@@ -99,14 +64,10 @@ pub fn chunk_place(image: &[u8], newest: Chunk, chunk: u32) -> Located
     ensures { λ r. ⌜ placeSaid r ≡ chunkAt (now (image .entry)) newest 8 chunk ⌝ }
 {
     if image.len() < SMALL {
-        let mut memory = small_memory();
+        let mut memory = [0u64; 512];
         return located_by(locate(image, newest, &mut memory, chunk, QUESTIONS));
     }
-    if is_plain(image, newest) {
-        let mut memory = middle_memory();
-        return located_by(locate(image, newest, &mut memory, chunk, QUESTIONS));
-    }
-    let mut memory = large_memory();
+    let mut memory = [0u64; 8192];
     located_by(locate(image, newest, &mut memory, chunk, QUESTIONS))
 }
 
@@ -137,14 +98,10 @@ pub fn map_id(image: &[u8], newest: Chunk, name: &[u8]) -> Id
     ensures { λ r. ⌜ idSaid r ≡ namedMap (now (image .entry)) newest (now (name .entry)) ⌝ }
 {
     if image.len() < SMALL {
-        let mut memory = small_memory();
+        let mut memory = [0u64; 512];
         return named_with(image, newest, &mut memory, name);
     }
-    if is_plain(image, newest) {
-        let mut memory = middle_memory();
-        return named_with(image, newest, &mut memory, name);
-    }
-    let mut memory = large_memory();
+    let mut memory = [0u64; 8192];
     named_with(image, newest, &mut memory, name)
 }
 
@@ -153,13 +110,9 @@ pub fn map_root(image: &[u8], newest: Chunk, map: u32) -> Root
     ensures { λ r. ⌜ rootSaid r ≡ mapRoot (now (image .entry)) newest map ⌝ }
 {
     if image.len() < SMALL {
-        let mut memory = small_memory();
+        let mut memory = [0u64; 512];
         return root_at(image, newest, &mut memory, map);
     }
-    if is_plain(image, newest) {
-        let mut memory = middle_memory();
-        return root_at(image, newest, &mut memory, map);
-    }
-    let mut memory = large_memory();
+    let mut memory = [0u64; 8192];
     root_at(image, newest, &mut memory, map)
 }

@@ -1,15 +1,13 @@
-// Locating a chunk and a descent, which ask each other. What was located is remembered in the first words
-// of an array that the caller lends, and what was read of wide pages in the others; `q` is how many
-// questions may still be opened.
+// Locating a chunk and a descent, which ask each other. What was located is remembered in an array
+// that the caller lends; `q` is how many questions may still be opened.
 use super::keys::number_key;
-use super::room::chunk_words;
 use super::settle::settle;
-use super::wide::advance_in;
 use key::Kind;
 use memory::Recalled;
 use metadata::Advance;
 use metadata::Looked;
 use metadata::Told;
+use metadata::advance_at;
 use metadata::place_of;
 use opening::Chunk;
 use position::Position;
@@ -31,8 +29,7 @@ pub(crate) fn locate(image: &[u8], newest: Chunk, memory: &mut [u64], c: u32, q:
             need: 0,
         };
     }
-    let h = chunk_words(image, memory);
-    let r = memory::recall(&memory[..h], c);
+    let r = memory::recall(memory, c);
     if let Recalled::At { place, need } = r {
         if q < need {
             return Told::Refused(Refusal::new(Refusal::NINTH_QUESTION));
@@ -54,7 +51,7 @@ pub(crate) fn locate(image: &[u8], newest: Chunk, memory: &mut [u64], c: u32, q:
         &key[..n],
         q - 1,
     );
-    settle(image, &mut memory[..h], c, f)
+    settle(image, memory, c, f)
 }
 
 // A lookup of `key` in the map whose root is given: one page a turn, at most 16.
@@ -77,13 +74,12 @@ pub(crate) fn descend(
     let mut p = root;
     let mut need: u32 = 0;
     let mut left: u32 = 16;
-    let h = chunk_words(image, memory);
     while 0 < left {
         if p == 0 {
             return Looked::Refused(Refusal::new(Refusal::PLACE));
         }
         let l = locate(image, newest, memory, Position { bits: p }.chunk(), q);
-        let a = advance_in(image, &mut memory[h..], l, need, p, map, kind, key);
+        let a = advance_at(image, l, need, p, map, kind, key);
         match a {
             Advance::To { position, need: n } => {
                 p = position;

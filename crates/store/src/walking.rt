@@ -2,11 +2,7 @@
 use super::SMALL;
 use super::down::down_by;
 use super::down::leftmost_from;
-use super::large_memory;
-use super::middle_memory;
-use super::plain::is_plain;
 use super::read::root_at;
-use super::small_memory;
 use cursor::Down;
 use cursor::Stepped;
 use cursor::Walk;
@@ -100,13 +96,9 @@ pub fn advance(image: &[u8], newest: Chunk, map: u32, kind: Kind, w: Walk) -> St
     ensures { λ r. ⌜ r ≡ stepIn (now (image .entry)) newest map kind w ⌝ }
 {
     if image.len() < SMALL {
-        let mut memory = small_memory();
+        let mut memory = [0u64; 512];
         return advance_with(image, newest, &mut memory, map, kind, w);
     }
-    if is_plain(image, newest) {
-        let mut memory = middle_memory();
-        return advance_with(image, newest, &mut memory, map, kind, w);
-    }
-    let mut memory = large_memory();
+    let mut memory = [0u64; 8192];
     advance_with(image, newest, &mut memory, map, kind, w)
 }

@@ -9,49 +9,32 @@ use Rattle.store.proofs.chunk_place.Statement.{statement}
 use Rattle.store.proofs.chunk_place.Tie as tie
 
 locate-requires : tie.Need-locate-requires
-locate-requires c κs = (omega arith, empty-right _ _ 1024 (c .before .small-memory .ensures))
+locate-requires c κs = (omega arith, empty-right _ _ 512)
 
 returns : tie.Need-returns
 returns c =
-    let a = c .before .before .before .before .before .before .before .args in
+    let a = c .before .before .before .before .before .before .args in
     let l = c .before .before .locate in
     ap placeSaid (c .located-by .ensures) ∙ place-told (now (a .image)) (a .newest) (a .chunk) (l .result) (l .ensures .1)
 
 locate-requires-2 : tie.Need-locate-requires-2
-locate-requires-2 c κs = (omega arith, empty-right _ _ 8192 (c .before .middle-memory .ensures))
+locate-requires-2 c κs = (omega arith, empty-right _ _ 8192)
 
 returns-2 : tie.Need-returns-2
 returns-2 c =
-    let a = c .before .before .before .before .before .before .before .before .before .args in
+    let a = c .before .before .before .before .before .before .args in
     let l = c .before .before .locate2 in
     ap placeSaid (c .located-by2 .ensures) ∙ place-told (now (a .image)) (a .newest) (a .chunk) (l .result) (l .ensures .1)
-
-locate-requires-3 : tie.Need-locate-requires-3
-locate-requires-3 c κs = (omega arith, empty-right _ _ 49152 (c .before .large-memory .ensures))
-
-returns-3 : tie.Need-returns-3
-returns-3 c =
-    let a = c .before .before .before .before .before .before .before .before .before .args in
-    let l = c .before .before .locate3 in
-    ap placeSaid (c .located-by3 .ensures) ∙ place-told (now (a .image)) (a .newest) (a .chunk) (l .result) (l .ensures .1)
 
 pub chunk-place-spec : {M : Type 1} → statement M
 chunk-place-spec =
     tie.close
     (tie.spec
-    (λ c κs. search needs)
     (λ c. search needs)
     locate-requires
     (λ c κs. search needs)
     returns
-    (λ c κs. search needs)
-    (λ c κs. search needs)
     (λ c. search needs)
     locate-requires-2
     (λ c κs. search needs)
-    returns-2
-    (λ c κs. search needs)
-    (λ c. search needs)
-    locate-requires-3
-    (λ c κs. search needs)
-    returns-3)
+    returns-2)

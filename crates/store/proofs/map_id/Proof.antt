@@ -4,37 +4,24 @@ use Rattle.store.proofs.map_id.Statement.{statement}
 use Rattle.store.proofs.map_id.Tie as tie
 
 named-with-requires : tie.Need-named-with-requires
-named-with-requires c κs = empty-right _ _ 1024 (c .before .small-memory .ensures)
+named-with-requires c κs = empty-right _ _ 512
 
 returns : tie.Need-returns
 returns c = c .before .named-with .ensures
 
 named-with-requires-2 : tie.Need-named-with-requires-2
-named-with-requires-2 c κs = empty-right _ _ 8192 (c .before .middle-memory .ensures)
+named-with-requires-2 c κs = empty-right _ _ 8192
 
 returns-2 : tie.Need-returns-2
 returns-2 c = c .before .named-with2 .ensures
-
-named-with-requires-3 : tie.Need-named-with-requires-3
-named-with-requires-3 c κs = empty-right _ _ 49152 (c .before .large-memory .ensures)
-
-returns-3 : tie.Need-returns-3
-returns-3 c = c .before .named-with3 .ensures
 
 pub map-id-spec : {M : Type 1} → statement M
 map-id-spec =
     tie.close
     (tie.spec
-    (λ c κs. search needs)
     (λ c. search needs)
     named-with-requires
     returns
-    (λ c κs. search needs)
-    (λ c κs. search needs)
     (λ c. search needs)
     named-with-requires-2
-    returns-2
-    (λ c κs. search needs)
-    (λ c. search needs)
-    named-with-requires-3
-    returns-3)
+    returns-2)

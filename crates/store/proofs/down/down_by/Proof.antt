@@ -34,11 +34,9 @@ read-page-requires c κs = c .before .before .loop .inv .0
 
 returns : tie.Need-returns Inv-loop μ-loop
 returns c =
-    let s = c .before .before .before .before .before .before .before .before .before .before .before .before in
-    let a = s .args in
-    let sixteen = s .good .1 .1 .1 .1 .1 .1 .0 .1 .0 .1 in
-    let few : a .depth ≤ length (a .t7) = omega (arith, s .pre .1, sixteen) in
-    let most : a .depth ≤ 16 = s .pre .1 in
+    let a = c .before .before .before .before .before .before .before .before .before .before .before .before .args in
+    let few : a .depth ≤ length (a .t7) = omega arith in
+    let most : a .depth ≤ 16 = omega arith in
     let l = c .before .before .before .before .before .before .before .before .before .loop in
     let r = c .before .before .before .before .before .before .read-page in
     let after-at = c .before .before .before .after-at in
@@ -83,11 +81,9 @@ returns-2 c =
 
 returns-3 : tie.Need-returns-3 Inv-loop μ-loop
 returns-3 c =
-    let s = c .before .before .before .before .before .before .before .before .before .before .before .before in
-    let a = s .args in
-    let sixteen = s .good .1 .1 .1 .1 .1 .1 .0 .1 .0 .1 in
-    let few : a .depth ≤ length (a .t7) = omega (arith, s .pre .1, sixteen) in
-    let most : a .depth ≤ 16 = s .pre .1 in
+    let a = c .before .before .before .before .before .before .before .before .before .before .before .before .args in
+    let few : a .depth ≤ length (a .t7) = omega arith in
+    let most : a .depth ≤ 16 = omega arith in
     let l = c .before .before .before .before .before .before .before .before .before .loop in
     let r = c .before .before .before .before .before .before .read-page in
     let after-at = c .before .before .before .after-at in

@@ -3,11 +3,10 @@ use mathlib.Core.Path.{_≡_, refl, sym, _∙_}
 use native.Mathlib.Omega.{arith}
 use denote.Ref.{now}
 use lib.ListN.{length}
-use lib.Seq.{length-take-le, length-front}
+use lib.Seq.{length-take-le}
 use borrow.Author.Needs.{needs}
 use Rattle.key.specs.Key.{keyOf}
 use Rattle.store.specs.Memory.{RightWords}
-use Rattle.store.specs.MemoryLaws.{chunk-words-le, length-back, back-right, right-back}
 use Rattle.store.specs.SettleLaws.{sought-few}
 use Rattle.store.specs.CycleLaws.{Came, came-root, came-on, sought-empty, sought-zero, sought-deep, sought-done}
 use Rattle.store.specs.CycleLaws.{tells-newest, tells-few, tells-recalled, tells-ninth, tells-settled}
@@ -24,9 +23,8 @@ use Rattle.refusal.proofs.Refusal.new.Reads as new-reads
 use Rattle.store.proofs.keys.number_key.Reads as number-key-reads
 use Rattle.memory.proofs.recall.Reads as recall-reads
 use Rattle.metadata.proofs.place_of.Reads as place-of-reads
-use Rattle.store.proofs.room.chunk_words.Reads as chunk-words-reads
 use Rattle.store.proofs.settle.settle.Reads as settle-reads
-use Rattle.store.proofs.wide.advance_in.Reads as advance-in-reads
+use Rattle.metadata.proofs.advance_at.Reads as advance-at-reads
 use Rattle.store.proofs.locate.+descend+locate.{statement}
 use Rattle.store.proofs.locate.+descend+locate.Tie.{close}
 
@@ -49,36 +47,32 @@ abbrev locate-below : ℕ → In 2 locate-kinds.ps
 locate-below t = and 2 locate-kinds.ps (falls 2 locate-kinds.ps _<_ μ-locate t) locate.Pre
 
 abbrev descend-Inv-loop : descend-lts.InvT-loop
-descend-Inv-loop image newest memory₀ root map kind key q p₀ need₀ left₀ h memory p need left =
+descend-Inv-loop image newest memory₀ root map kind key q p₀ need₀ left₀ memory p need left =
     RightWords image newest memory × Came image newest map kind root (keyOf kind key) q need left p ×
     (length memory ≡ length memory₀)
 
 abbrev descend-μ-loop : descend-lts.MeasureT-loop
-descend-μ-loop image newest memory₀ root map kind key q p₀ need₀ left₀ h memory p need left = left
+descend-μ-loop image newest memory₀ root map kind key q p₀ need₀ left₀ memory p need left = left
 
 descend-meets : {M : Type 1} (t : ℕ) → descend-lts.Closed (
-  chunk-words-reads.Asked,
-  chunk-words-reads.Learnt,
   new-reads.Asked,
   new-reads.Learnt,
   chunk-reads.Asked,
   chunk-reads.Learnt,
   locate-below t,
   locate.Post,
-  advance-in-reads.Asked,
-  advance-in-reads.Learnt,
+  advance-at-reads.Asked,
+  advance-at-reads.Learnt,
 ) (descend-at t) descend.Post M
 descend-meets t = descend-lts.spec (
-  chunk-words-reads.Asked,
-  chunk-words-reads.Learnt,
   new-reads.Asked,
   new-reads.Learnt,
   chunk-reads.Asked,
   chunk-reads.Learnt,
   locate-below t,
   locate.Post,
-  advance-in-reads.Asked,
-  advance-in-reads.Learnt,
+  advance-at-reads.Asked,
+  advance-at-reads.Learnt,
 )
     (descend-at t)
     descend.Post
@@ -87,62 +81,41 @@ descend-meets t = descend-lts.spec (
     (λ c.
     let a = c .before .before .before .before .args in
     (c .before .before .before .before .pre .1 .1, sought-empty (now (a .image)) (a .newest) (a .map) (a .kind) (a .root) (keyOf (a .kind) (now (a .key))) (a .q) (c .if1 .taken)))
-    (λ c κs. search needs)
     (λ c.
-    let a = c .before .before .before .before .before .before .args in
-    (c .before .before .before .before .before .before .pre .1 .1, came-root (now (a .image)) (a .newest) (a .map) (a .kind) (a .root) (keyOf (a .kind) (now (a .key))) (a .q) (c .before .before .if1 .left), refl))
+    let a = c .before .before .before .before .args in
+    (c .before .before .before .before .pre .1 .1, came-root (now (a .image)) (a .newest) (a .map) (a .kind) (a .root) (keyOf (a .kind) (now (a .key))) (a .q) (c .if1 .left), refl))
     (λ c κs. search needs)
     (λ c. search needs)
     (λ c.
-    let a = c .before .before .before .before .before .before .before .before .before .before .args in
+    let a = c .before .before .before .before .before .before .before .before .args in
     let l = c .before .before .before .loop in
     (l .inv .0, sought-zero (now (a .image)) (a .newest) (a .map) (a .kind) (a .root) (keyOf (a .kind) (now (a .key))) (a .q) (l .left) (l .p) (omega arith) (c .before .if2 .taken) (l .inv .1) (c .new .ensures)))
     (λ c κs. search needs)
-    (λ c κs. (omega (arith, c .before .before .before .before .before .before .before .before .before .before .before .pre .0), (omega (arith, c .before .before .before .before .before .before .before .before .before .before .before .pre .1 .0), c .before .before .before .before .loop .inv .0)))
-    (λ c.
-    let a = c .before .before .before .before .before .before .before .before .before .before .before .before .before .before .args in
-    omega (arith, c .before .before .before .before .before .before .before .before .before .before .before .before .before .before .good .1 .1 .0 .1, c .before .before .before .before .before .before .before .before .chunk-words .ensures, chunk-words-le (length (now (a .image))) (length (now (a .memory)))))
-    (λ c. rw (c .before .before .locate .kept .1 .1 .0 ∙ c .before .before .before .before .before .before .before .loop .inv .2, c .before .before .before .before .before .before .before .before .chunk-words .ensures) (chunk-words-le _ _))
-    (λ c. rw (c .before .before .locate .kept .1 .1 .0 ∙ c .before .before .before .before .before .before .before .loop .inv .2, c .before .before .before .before .before .before .before .before .chunk-words .ensures) (chunk-words-le _ _))
+    (λ c κs. (omega (arith, c .before .before .before .before .before .before .before .before .before .pre .0), (omega (arith, c .before .before .before .before .before .before .before .before .before .pre .1 .0), c .before .before .before .before .loop .inv .0)))
+    (λ c κs. search needs)
     (λ c. search needs)
-    (λ c κs.
-    let a = c .before .before .before .before .before .before .before .before .before .before .before .before .before .before .before .args in
-    let f = c .before .before .before .locate in
-    let w = c .before .before .before .before .before .before .before .before .before .chunk-words in
-    back-right (now (a .image)) (a .newest) (f .ensures .0) (w .result) (rw (f .kept .1 .1 .0 ∙ c .before .before .before .before .before .before .before .before .loop .inv .2) (w .ensures)))
-    (λ c. search needs)
-    (λ c. search needs)
-    (λ c. length-back (c .before .before .before .before .before .before .before .before .before .locate .last .1 .1 .0) (c .before .before .before .before .before .before .before .before .before .before .before .before .before .before .before .chunk-words .result) (c .before .before .before .before .before .advance-in .last .1 .0) (c .before .before .before .before .before .advance-in .kept .1 .0) ∙ c .before .before .before .before .before .before .before .before .before .locate .kept .1 .1 .0 ∙ c .before .before .before .before .before .before .before .before .before .before .before .before .before .before .loop .inv .2)
-    (λ c.
-    let a = c .before .before .before .before .before .before .before .before .before .before .before .before .before .before .before .before .before .before .before .before .before .args in
-    let l = c .before .before .before .before .before .before .before .before .before .before .before .before .before .before .loop in
-    let f = c .before .before .before .before .before .before .before .before .before .locate in
-    let v = c .before .before .before .before .before .advance-in in
-    let w = c .before .before .before .before .before .before .before .before .before .before .before .before .before .before .before .chunk-words in
-    let right = right-back (now (a .image)) (a .newest) (f .ensures .0) (w .result) (rw (f .kept .1 .1 .0 ∙ l .inv .2) (w .ensures)) (v .last .1 .0) (v .kept .1 .0) (v .ensures .0) in
-    (right, sought-done (now (a .image)) (a .newest) (a .map) (a .kind) (a .root) (keyOf (a .kind) (now (a .key))) (a .q) (l .need) (l .left) (l .p) _ (f .result) (v .result) (c .before .before .before .before .before .before .before .before .before .before .before .before .before .loop-test .taken) (c .before .before .before .before .before .before .before .before .before .before .before .before .if2 .left) (l .inv .1) (c .before .before .before .before .before .before .before .before .before .before .chunk .ensures) (f .ensures .1) (v .ensures .1) (c .before .a2 .given .1)))
     (λ c. search needs)
     (λ c. search needs)
     (λ c.
-    let a = c .before .before .before .before .before .before .before .before .before .before .before .before .before .before .before .before .before .before .before .before .before .args in
-    let l = c .before .before .before .before .before .before .before .before .before .before .before .before .before .before .loop in
-    let f = c .before .before .before .before .before .before .before .before .before .locate in
-    let v = c .before .before .before .before .before .advance-in in
-    let w = c .before .before .before .before .before .before .before .before .before .before .before .before .before .before .before .chunk-words in
-    let right = right-back (now (a .image)) (a .newest) (f .ensures .0) (w .result) (rw (f .kept .1 .1 .0 ∙ l .inv .2) (w .ensures)) (v .last .1 .0) (v .kept .1 .0) (v .ensures .0) in
-    (right, came-on (now (a .image)) (a .newest) (a .map) (a .kind) (a .root) (keyOf (a .kind) (now (a .key))) (a .q) (l .need) (l .left) (l .p) _ (f .result) (v .result) (c .before .before .before .before .before .before .before .before .before .before .before .before .before .loop-test .taken) (c .before .before .before .before .before .before .before .before .before .before .before .before .if2 .left) (l .inv .1) (c .before .before .before .before .before .before .before .before .before .before .chunk .ensures) (f .ensures .1) (v .ensures .1) (c .before .a .given .1), length-back (f .last .1 .1 .0) (w .result) (v .last .1 .0) (v .kept .1 .0) ∙ f .kept .1 .1 .0 ∙ l .inv .2))
+    let a = c .before .before .before .before .before .before .before .before .before .before .before .before .before .before .before .before .args in
+    let l = c .before .before .before .before .before .before .before .before .before .before .before .loop in
+    (c .before .before .before .before .before .before .locate .ensures .0, sought-done (now (a .image)) (a .newest) (a .map) (a .kind) (a .root) (keyOf (a .kind) (now (a .key))) (a .q) (l .need) (l .left) (l .p) _ (c .before .before .before .before .before .before .locate .result) (c .before .before .before .advance-at .result) (omega arith) (c .before .before .before .before .before .before .before .before .before .if2 .left) (l .inv .1) (c .before .before .before .before .before .before .before .chunk .ensures) (c .before .before .before .before .before .before .locate .ensures .1) (c .before .before .before .advance-at .ensures) (c .before .a2 .given .1)))
+    (λ c. search needs)
+    (λ c. search needs)
+    (λ c.
+    let a = c .before .before .before .before .before .before .before .before .before .before .before .before .before .before .before .before .args in
+    let l = c .before .before .before .before .before .before .before .before .before .before .before .loop in
+    (c .before .before .before .before .before .before .locate .ensures .0, came-on (now (a .image)) (a .newest) (a .map) (a .kind) (a .root) (keyOf (a .kind) (now (a .key))) (a .q) (l .need) (l .left) (l .p) _ (c .before .before .before .before .before .before .locate .result) (c .before .before .before .advance-at .result) (omega arith) (c .before .before .before .before .before .before .before .before .before .if2 .left) (l .inv .1) (c .before .before .before .before .before .before .before .chunk .ensures) (c .before .before .before .before .before .before .locate .ensures .1) (c .before .before .before .advance-at .ensures) (c .before .a .given .1), search needs))
     (λ c κs. search needs)
     (λ c. search needs)
     (λ c.
-    let a = c .before .before .before .before .before .before .before .before .before .args in
+    let a = c .before .before .before .before .before .before .before .args in
     let l = c .before .before .loop in
     (l .inv .0, sought-deep (now (a .image)) (a .newest) (a .map) (a .kind) (a .root) (keyOf (a .kind) (now (a .key))) (a .q) (l .left) (omega arith) (l .inv .1) (c .new2 .ensures)))
 
 locate-meets : {M : Type 1} (t : ℕ) → locate-lts.Closed (
   place-of-reads.Asked,
   place-of-reads.Learnt,
-  chunk-words-reads.Asked,
-  chunk-words-reads.Learnt,
   recall-reads.Asked,
   recall-reads.Learnt,
   new-reads.Asked,
@@ -157,8 +130,6 @@ locate-meets : {M : Type 1} (t : ℕ) → locate-lts.Closed (
 locate-meets t = locate-lts.spec (
   place-of-reads.Asked,
   place-of-reads.Learnt,
-  chunk-words-reads.Asked,
-  chunk-words-reads.Learnt,
   recall-reads.Asked,
   recall-reads.Learnt,
   new-reads.Asked,
@@ -177,45 +148,37 @@ locate-meets t = locate-lts.spec (
     let a = c .before .before .before .before .before .args in
     (c .before .before .before .before .before .pre .1 .1, tells-newest (now (a .image)) (a .newest) (a .q) (a .c) (c .before .if1 .taken) (c .place-of .result) (c .place-of .ensures)))
     (λ c κs. search needs)
-    (λ c. rw (c .chunk-words .ensures) (chunk-words-le _ _))
-    (λ c. sym (length-take-le _ _ (rw (c .before .chunk-words .ensures) (chunk-words-le _ _))))
-    (λ c κs. search needs)
     (λ c. search needs)
-    (λ c κs. search needs)
-    (λ c. search needs)
-    (λ c.
-    let a = c .before .before .before .before .before .before .before .before .before .before .before .before .before .args in
-    let g = c .before .before .before .before .before .before .before .before .before .before .before .before .before .pre .1 .1 in
-    let w = c .before .before .before .before .before .before .before .chunk-words in
-    (g, tells-few (now (a .image)) (a .newest) (a .q) (a .c) g (w .result) (w .ensures) (sym (c .before .before .before .before .before .recall .ensures) ∙ c .before .before .before .r .given .1) (omega (arith, c .before .if2 .taken, c .before .before .before .before .before .before .before .before .before .before .before .before .before .pre .1 .0)) (c .new .ensures)))
-    (λ c. search needs)
-    (λ c.
-    let a = c .before .before .before .before .before .before .before .before .before .before .before .before .args in
-    let g = c .before .before .before .before .before .before .before .before .before .before .before .before .pre .1 .1 in
-    let w = c .before .before .before .before .before .before .chunk-words in
-    (g, tells-recalled (now (a .image)) (a .newest) (a .q) (a .c) g (w .result) (w .ensures) (sym (c .before .before .before .before .recall .ensures) ∙ c .before .before .r .given .1) (omega (arith, c .if2 .left))))
     (λ c κs. search needs)
     (λ c. search needs)
     (λ c.
     let a = c .before .before .before .before .before .before .before .before .before .before .before .args in
-    (c .before .before .before .before .before .before .before .before .before .before .before .pre .1 .1, tells-ninth (now (a .image)) (a .newest) (a .q) (a .c) (c .before .before .before .before .before .before .before .if1 .left) (c .before .if3 .taken) (c .new2 .ensures)))
+    let g = c .before .before .before .before .before .before .before .before .before .before .before .pre .1 .1 in
+    (g, tells-few (now (a .image)) (a .newest) (a .q) (a .c) g (sym (c .before .before .before .before .before .recall .ensures) ∙ c .before .before .before .r .given .1) (omega (arith, c .before .if2 .taken, c .before .before .before .before .before .before .before .before .before .before .before .pre .1 .0)) (c .new .ensures)))
+    (λ c. search needs)
+    (λ c.
+    let a = c .before .before .before .before .before .before .before .before .before .before .args in
+    let g = c .before .before .before .before .before .before .before .before .before .before .pre .1 .1 in
+    (g, tells-recalled (now (a .image)) (a .newest) (a .q) (a .c) g (sym (c .before .before .before .before .recall .ensures) ∙ c .before .before .r .given .1) (omega (arith, c .if2 .left))))
+    (λ c κs. search needs)
+    (λ c. search needs)
+    (λ c.
+    let a = c .before .before .before .before .before .before .before .before .before .args in
+    (c .before .before .before .before .before .before .before .before .before .pre .1 .1, tells-ninth (now (a .image)) (a .newest) (a .q) (a .c) (c .before .before .before .before .before .if1 .left) (c .before .if3 .taken) (c .new2 .ensures)))
     (λ c. search needs)
     (λ c κs. search needs)
     (λ c. c .before .number-key .ensures .inside)
     (λ c. sym (length-take-le _ _ (c .before .before .number-key .ensures .inside)))
     (λ c. search needs)
-    (λ c κs. (omega (arith, c .before .before .before .before .before .before .before .before .before .before .before .before .before .before .before .pre .0), (omega (arith, c .before .before .before .before .before .before .before .before .before .before .before .before .before .before .before .pre .1 .0), c .before .before .before .before .before .before .before .before .before .before .before .before .before .before .before .pre .1 .1)))
-    (λ c. rw (c .before .before .descend .kept .1 .1 .0, c .before .before .before .before .before .before .before .before .before .before .before .before .chunk-words .ensures) (chunk-words-le _ _))
-    (λ c. sym (length-take-le _ _ (rw (c .before .before .before .descend .kept .1 .1 .0, c .before .before .before .before .before .before .before .before .before .before .before .before .before .chunk-words .ensures) (chunk-words-le _ _))))
+    (λ c κs. (omega (arith, c .before .before .before .before .before .before .before .before .before .before .before .before .before .pre .0), (omega (arith, c .before .before .before .before .before .before .before .before .before .before .before .before .before .pre .1 .0), c .before .before .before .before .before .before .before .before .before .before .before .before .before .pre .1 .1)))
     (λ c κs.
-    let a = c .before .before .before .before .before .before .before .before .before .before .before .before .before .before .before .before .before .before .before .args in
-    omega (arith, sought-few (now (a .image)) (a .newest) _ _ _ _ (a .q - 1) (c .before .before .before .descend .result) (c .before .before .before .descend .ensures .1), c .before .before .before .before .before .before .before .before .before .before .before .before .before .before .before .before .before .before .before .pre .1 .0))
-    (λ c. length-front (c .before .before .before .before .before .before .descend .last .1 .1 .0) (c .before .before .settle .last .1 .0) (c .before .before .before .before .before .before .before .before .before .before .before .before .before .before .before .before .chunk-words .result) (c .before .before .settle .kept .1 .0) ∙ c .before .before .before .before .before .before .descend .kept .1 .1 .0)
+    let a = c .before .before .before .before .before .before .before .before .before .before .before .before .before .before .before .before .before .args in
+    omega (arith, sought-few (now (a .image)) (a .newest) _ _ _ _ (a .q - 1) (c .before .before .before .descend .result) (c .before .before .before .descend .ensures .1), c .before .before .before .before .before .before .before .before .before .before .before .before .before .before .before .before .before .pre .1 .0))
+    (λ c. search needs)
     (λ c.
-    let a = c .before .before .before .before .before .before .before .before .before .before .before .before .before .before .before .before .before .before .before .before .before .before .args in
+    let a = c .before .before .before .before .before .before .before .before .before .before .before .before .before .before .before .before .before .before .before .before .args in
     let d = c .before .before .before .before .before .before .descend in
-    let w = c .before .before .before .before .before .before .before .before .before .before .before .before .before .before .before .before .chunk-words in
-    tells-settled (now (a .image)) (a .newest) (a .q) (a .c) (d .last .1 .1 .0) (w .result) (rw (d .kept .1 .1 .0) (w .ensures)) (d .result) (c .before .before .before .before .before .before .before .before .before .before .before .before .before .before .before .before .before .before .if1 .left) (c .before .before .before .before .before .before .before .before .before .before .before .before .if3 .left) (c .before .before .before .before .before .before .before .before .before .before .before .before .before .before .before .before .before .before .before .before .before .before .pre .1 .0) (d .ensures .0) _ (c .before .before .before .before .before .before .before .before .before .number-key .ensures .text) (d .ensures .1) (c .before .before .settle .result) _ (c .before .before .settle .ensures .0) (c .before .before .settle .ensures .1) (c .before .before .settle .kept .1 .0))
+    tells-settled (now (a .image)) (a .newest) (a .q) (a .c) _ (d .result) (c .before .before .before .before .before .before .before .before .before .before .before .before .before .before .before .before .if1 .left) (c .before .before .before .before .before .before .before .before .before .before .before .before .if3 .left) (c .before .before .before .before .before .before .before .before .before .before .before .before .before .before .before .before .before .before .before .before .pre .1 .0) (d .ensures .0) _ (c .before .before .before .before .before .before .before .before .before .number-key .ensures .text) (d .ensures .1) (c .before .before .settle .result) _ (c .before .before .settle .ensures .0) (c .before .before .settle .ensures .1))
 
 pub +descend+locate-spec : {M : Type 1} → statement M
 +descend+locate-spec = close μ-descend μ-locate descend-meets locate-meets
