@@ -2,3 +2,5 @@ pub mod Answers
 pub mod Descent
 pub mod DescentLaws
 pub mod IdLaws
+pub mod Keys
+pub mod KeyLaws

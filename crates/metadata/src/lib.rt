@@ -1,10 +1,17 @@
 // What the metadata's answers say: of a chunk, where it stands; of a map, its id and its root. And one
 // page of a descent, which asks the metadata or any other map.
 mod descent;
+mod keys;
 
 pub use descent::Advance;
 pub use descent::Step;
 pub use descent::advance_at;
+pub use keys::NAME;
+pub use keys::NameKey;
+pub use keys::NumberKey;
+pub use keys::chunk_key;
+pub use keys::name_key;
+pub use keys::root_key;
 use line::Fields;
 use numeral::Number;
 use opening::Chunk;

@@ -19,7 +19,8 @@ use Rattle.metadata.specs.declared.Told.the-variants as told
 use Rattle.metadata.specs.declared.Looked.{Looked}
 use Rattle.metadata.specs.declared.Looked.the-variants as looked
 use Rattle.metadata.specs.Answers.{namedId, namedRoot, placeSaid, locatedBy, valueBy, idBy, rootBy}
-use Rattle.store.specs.Store.{chunkAt, reader, metaValue, nameKey, rootKey, mapId, mapRoot, namedMap}
+use Rattle.metadata.specs.Keys.{nameKey, rootKey}
+use Rattle.store.specs.Store.{chunkAt, reader, metaValue, mapId, mapRoot, namedMap}
 use Rattle.store.specs.Asking.{valueOf}
 use Rattle.store.specs.Memory.{TellsOf, Sought}
 

@@ -31,7 +31,8 @@ use Rattle.metadata.specs.declared.Looked.the-variants as looked
 use Rattle.metadata.specs.declared.descent.Advance.{Advance}
 use Rattle.metadata.specs.declared.descent.Advance.the-variants.{To, Done}
 use Rattle.metadata.specs.Answers.{placeOf}
-use Rattle.store.specs.Store.{metadata, chunkKey}
+use Rattle.metadata.specs.Keys.{chunkKey}
+use Rattle.store.specs.Store.{metadata}
 use Rattle.store.specs.Memory.{RightWords}
 use Rattle.store.specs.Memory.{TellsOf, Sought}
 use Rattle.store.specs.MemoryLaws.{recalled-known}

@@ -5,8 +5,6 @@ pub mod Walk
 pub mod WalkWays
 pub mod Memory
 pub mod Steps
-pub mod Keys
-pub mod KeyLaws
 pub mod MemoryLaws
 pub mod SettleLaws
 pub mod CycleLaws

@@ -25,7 +25,8 @@ use Rattle.locating.specs.StepLaws.{asked-refused, placed-refused, placed-known
 use Rattle.metadata.specs.declared.Looked.{Looked}
 use Rattle.metadata.specs.declared.Looked.the-variants as looked
 use Rattle.metadata.specs.Answers.{bytesAt, placeOf, standingBy, needOf}
-use Rattle.store.specs.Store.{chunkKey, metadata}
+use Rattle.metadata.specs.Keys.{chunkKey}
+use Rattle.store.specs.Store.{metadata}
 use Rattle.store.specs.Memory.{RightWords, TellsOf, Sought}
 use Rattle.store.specs.Steps.{toldBy, settledTold, settledWords}
 use Rattle.store.specs.MemoryLaws.{remembered-right}

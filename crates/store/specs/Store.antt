@@ -1,6 +1,5 @@
 -- The store of an image and its newest chunk, after document 01, "Where a chunk is" and "Asking".
 --
---   prefixChunk, prefixName, prefixRoot    the fixed byte strings `chunk.`, `name.` and `root.`
 --   metadata image newest   what locating takes, for this image
 --   chunkAt image newest q n    where chunk n is, with q questions that may still be opened
 --   reader image newest map kind p    the page at p, due for a map of a kind: 8 questions may be opened
@@ -9,12 +8,11 @@
 --   namedMap image newest name   the same, a name of more than 1,000 bytes refused with 1
 --   mapRoot image newest map     "`root.` with the id gives its root, absent meaning 0"
 use Prim.Native.Nat.{ℕ}
-use mathlib.Core.List.{List, [], _∷_, _++_}
+use mathlib.Core.List.{List}
 use mathlib.Core.Option.{Option}
 use lib.Dec.{eqb, ltb}
 use lib.ListN.{length}
 use Rattle.refusal.specs.Refusal.{Outcome, ok, refuse, bind, badArgument, outOfPlace}
-use Rattle.numeral.specs.Hex.{hexText}
 use Rattle.position.specs.Position.{chunkOf}
 use Rattle.key.specs.declared.Kind.{Kind}
 use Rattle.key.specs.declared.Kind.the-variants.{Text}
@@ -26,28 +24,7 @@ use Rattle.opening.specs.declared.chunk.Chunk.{Chunk}
 use Rattle.page.specs.declared.Place.{Place}
 use Rattle.content.specs.Content.{Entry, pageIn}
 use Rattle.metadata.specs.Answers.{placeOf, standingBy, placedAt, namedId, namedRoot}
-
--- `chunk.`
-abbrev pub prefixChunk : List ℕ
-prefixChunk = 99 ∷ 104 ∷ 117 ∷ 110 ∷ 107 ∷ 46 ∷ []
-
--- `name.`
-abbrev pub prefixName : List ℕ
-prefixName = 110 ∷ 97 ∷ 109 ∷ 101 ∷ 46 ∷ []
-
--- `root.`
-abbrev pub prefixRoot : List ℕ
-prefixRoot = 114 ∷ 111 ∷ 111 ∷ 116 ∷ 46 ∷ []
-
--- the keys of the metadata
-abbrev pub chunkKey : ℕ → List ℕ
-chunkKey n = prefixChunk ++ hexText n
-
-abbrev pub nameKey : List ℕ → List ℕ
-nameKey name = prefixName ++ name
-
-abbrev pub rootKey : ℕ → List ℕ
-rootKey map = prefixRoot ++ hexText map
+use Rattle.metadata.specs.Keys.{chunkKey, nameKey, rootKey}
 
 -- ## Where a chunk is
 -- "The newest stands where opening found it. Chunk N otherwise is found by a metadata lookup of `chunk.` and N in hex";
@@ -84,6 +61,6 @@ unfoldable pub mapRoot : List ℕ → Chunk → ℕ → Outcome ℕ
 mapRoot image newest map =
     branch (eqb map 0) (ok (newest .root)) (bind (metaValue image newest (rootKey map)) (namedRoot image))
 
--- a name's key has room for 1,000 bytes: "map name not 1 to 1,000 bytes of 32 to 126" is refusal 1
+-- "map name not 1 to 1,000 bytes of 32 to 126" is refusal 1
 unfoldable pub namedMap : List ℕ → Chunk → List ℕ → Outcome ℕ
 namedMap image newest name = branch (ltb 1000 (length name)) (refuse badArgument) (mapId image newest name)

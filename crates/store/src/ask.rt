@@ -2,11 +2,11 @@
 use super::Counted;
 use super::Fetched;
 use super::QUESTIONS;
-use super::SMALL;
 use super::fetch::fetch_from;
 use super::locate::descend;
 use super::read::read_page;
 use super::read::root_at;
+use super::room::few_words;
 use key::Kind;
 use metadata::Root;
 use metadata::Value;
@@ -45,11 +45,7 @@ fn lookup_with(
 pub fn lookup(image: &[u8], newest: Chunk, map: u32, kind: Kind, key: &[u8]) -> Value
     ensures { λ r. ⌜ r ≡ valueOf (lookupIn (now (image .entry)) newest map kind (keyOf kind (now (key .entry)))) ⌝ }
 {
-    if image.len() < SMALL {
-        let mut memory = [0u64; 512];
-        return lookup_with(image, newest, &mut memory, map, kind, key);
-    }
-    let mut memory = [0u64; 8192];
+    let mut memory = few_words();
     lookup_with(image, newest, &mut memory, map, kind, key)
 }
 
@@ -75,11 +71,7 @@ fn index_with(
 pub fn index(image: &[u8], newest: Chunk, map: u32, kind: Kind, index: u64) -> Fetched
     ensures { λ r. ⌜ r ≡ fetchedOf (indexIn (now (image .entry)) newest map kind index) ⌝ }
 {
-    if image.len() < SMALL {
-        let mut memory = [0u64; 512];
-        return index_with(image, newest, &mut memory, map, kind, index);
-    }
-    let mut memory = [0u64; 8192];
+    let mut memory = few_words();
     index_with(image, newest, &mut memory, map, kind, index)
 }
 
@@ -133,10 +125,6 @@ fn count_with(image: &[u8], newest: Chunk, memory: &mut [u64], map: u32, kind: K
 pub fn count(image: &[u8], newest: Chunk, map: u32, kind: Kind) -> Counted
     ensures { λ r. ⌜ r ≡ countedOf (countIn (now (image .entry)) newest map kind) ⌝ }
 {
-    if image.len() < SMALL {
-        let mut memory = [0u64; 512];
-        return count_with(image, newest, &mut memory, map, kind);
-    }
-    let mut memory = [0u64; 8192];
+    let mut memory = few_words();
     count_with(image, newest, &mut memory, map, kind)
 }

@@ -1,8 +1,9 @@
 // The examination of a map: depth first, a page's own rules before its keys, its separators before its
 // children, a child before its recorded count.
-use super::SMALL;
 use super::read::read_page;
 use super::read::root_at;
+use super::room::few_words;
+use super::room::many_words;
 use key::Kind;
 use metadata::Root;
 use opening::Chunk;
@@ -195,14 +196,17 @@ fn examine_with(image: &[u8], newest: Chunk, memory: &mut [u64], map: u32, kind:
     }
 }
 
+// An image below so many bytes has fewer blocks than few words have room for.
+const SMALL: usize = 1048576;
+
 // The examination of a map by its id and kind.
 pub fn examine(image: &[u8], newest: Chunk, map: u32, kind: Kind) -> Examined
     ensures { λ r. ⌜ r ≡ examinedOf (examineIn (now (image .entry)) newest map kind) ⌝ }
 {
     if image.len() < SMALL {
-        let mut memory = [0u64; 512];
+        let mut memory = few_words();
         return examine_with(image, newest, &mut memory, map, kind);
     }
-    let mut memory = [0u64; 8192];
+    let mut memory = many_words();
     examine_with(image, newest, &mut memory, map, kind)
 }

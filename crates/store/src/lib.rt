@@ -5,9 +5,9 @@ mod ask;
 mod down;
 mod examining;
 mod fetch;
-mod keys;
 mod locate;
 mod read;
+mod room;
 mod settle;
 mod walking;
 
@@ -16,17 +16,19 @@ pub use ask::index;
 pub use ask::lookup;
 pub use examining::examine;
 use key::Kind;
-use keys::name_key;
 use locate::descend;
 use locate::locate;
 use metadata::Id;
 use metadata::Located;
+use metadata::NAME;
 use metadata::Root;
 use metadata::id_by;
 use metadata::located_by;
+use metadata::name_key;
 use opening::Chunk;
 use read::root_at;
 use refusal::Refusal;
+use room::few_words;
 pub use walking::advance;
 ghost use mathlib.Core.Path.{_≡_};
 ghost use Rattle.metadata.specs.Answers.{placeSaid, idSaid, rootSaid};
@@ -48,26 +50,14 @@ pub enum Counted {
     Refused(Refusal),
 }
 
-// An image below so many bytes has no more than 256 blocks, and so no more chunks than a memory of 512
-// words has room for. One of 8,192 has room for the chunks of any image of 16 MB. A public function
-// clears one of the two, since clearing takes time, and lends it to what does the work.
-pub const SMALL: usize = 1048576;
-
 // How many questions may be open at once.
 pub const QUESTIONS: u32 = 8;
-
-// The longest name of a map.
-pub const NAME: usize = 1000;
 
 // Where chunk `chunk` is.
 pub fn chunk_place(image: &[u8], newest: Chunk, chunk: u32) -> Located
     ensures { λ r. ⌜ placeSaid r ≡ chunkAt (now (image .entry)) newest 8 chunk ⌝ }
 {
-    if image.len() < SMALL {
-        let mut memory = [0u64; 512];
-        return located_by(locate(image, newest, &mut memory, chunk, QUESTIONS));
-    }
-    let mut memory = [0u64; 8192];
+    let mut memory = few_words();
     located_by(locate(image, newest, &mut memory, chunk, QUESTIONS))
 }
 
@@ -78,8 +68,9 @@ fn named_with(image: &[u8], newest: Chunk, memory: &mut [u64], name: &[u8]) -> I
     if NAME < name.len() {
         return Id::Refused(Refusal::new(Refusal::ARGUMENT));
     }
-    let mut key = [0u8; 1024];
-    let n = name_key(&mut key, name);
+    let key = name_key(name);
+    let bytes = key.bytes;
+    let n = key.len;
     let f = descend(
         image,
         newest,
@@ -87,7 +78,7 @@ fn named_with(image: &[u8], newest: Chunk, memory: &mut [u64], name: &[u8]) -> I
         newest.root,
         0,
         Kind::Text,
-        &key[..n],
+        &bytes[..n],
         QUESTIONS,
     );
     id_by(image, f)
@@ -97,11 +88,7 @@ fn named_with(image: &[u8], newest: Chunk, memory: &mut [u64], name: &[u8]) -> I
 pub fn map_id(image: &[u8], newest: Chunk, name: &[u8]) -> Id
     ensures { λ r. ⌜ idSaid r ≡ namedMap (now (image .entry)) newest (now (name .entry)) ⌝ }
 {
-    if image.len() < SMALL {
-        let mut memory = [0u64; 512];
-        return named_with(image, newest, &mut memory, name);
-    }
-    let mut memory = [0u64; 8192];
+    let mut memory = few_words();
     named_with(image, newest, &mut memory, name)
 }
 
@@ -109,10 +96,6 @@ pub fn map_id(image: &[u8], newest: Chunk, name: &[u8]) -> Id
 pub fn map_root(image: &[u8], newest: Chunk, map: u32) -> Root
     ensures { λ r. ⌜ rootSaid r ≡ mapRoot (now (image .entry)) newest map ⌝ }
 {
-    if image.len() < SMALL {
-        let mut memory = [0u64; 512];
-        return root_at(image, newest, &mut memory, map);
-    }
-    let mut memory = [0u64; 8192];
+    let mut memory = few_words();
     root_at(image, newest, &mut memory, map)
 }

@@ -1,6 +1,7 @@
 // Locating a chunk and a descent, which ask each other. What was located is remembered in an array
 // that the caller lends; `q` is how many questions may still be opened.
-use super::keys::number_key;
+use super::room::is_crowded;
+use super::room::many_words;
 use super::settle::settle;
 use key::Kind;
 use memory::Recalled;
@@ -8,6 +9,7 @@ use metadata::Advance;
 use metadata::Looked;
 use metadata::Told;
 use metadata::advance_at;
+use metadata::chunk_key;
 use metadata::place_of;
 use opening::Chunk;
 use position::Position;
@@ -39,8 +41,12 @@ pub(crate) fn locate(image: &[u8], newest: Chunk, memory: &mut [u64], c: u32, q:
     if q == 0 {
         return Told::Refused(Refusal::new(Refusal::NINTH_QUESTION));
     }
-    let mut key = [0u8; 1024];
-    let n = number_key(&mut key, b"chunk.", c as u64);
+    if is_crowded(r, memory.len()) {
+        return locate_anew(image, newest, c, q);
+    }
+    let key = chunk_key(c);
+    let bytes = key.bytes;
+    let n = key.len;
     let f = descend(
         image,
         newest,
@@ -48,10 +54,19 @@ pub(crate) fn locate(image: &[u8], newest: Chunk, memory: &mut [u64], c: u32, q:
         newest.root,
         0,
         Kind::Text,
-        &key[..n],
+        &bytes[..n],
         q - 1,
     );
     settle(image, memory, c, f)
+}
+
+// The same with many words, since the few that were lent are full: those stay as they are.
+fn locate_anew(image: &[u8], newest: Chunk, c: u32, q: u32) -> Told
+    requires { ⌜ q ≤ 8 ⌝ }
+    ensures { λ r. ⌜ TellsOf (now (image .entry)) newest q c r ⌝ }
+{
+    let mut memory = many_words();
+    locate(image, newest, &mut memory, c, q)
 }
 
 // A lookup of `key` in the map whose root is given: one page a turn, at most 16.

@@ -1,12 +1,12 @@
 // A page of a map by its position, and a map's root, with what the call remembers.
 use super::QUESTIONS;
-use super::keys::number_key;
 use super::locate::descend;
 use super::locate::locate;
 use key::Kind;
 use metadata::Root;
 use metadata::Told;
 use metadata::root_by;
+use metadata::root_key;
 use opening::Chunk;
 use page::Judged;
 use position::Position;
@@ -49,8 +49,9 @@ pub(crate) fn root_at(image: &[u8], newest: Chunk, memory: &mut [u64], map: u32)
     if map == 0 {
         return Root::At(newest.root);
     }
-    let mut key = [0u8; 1024];
-    let n = number_key(&mut key, b"root.", map as u64);
+    let key = root_key(map);
+    let bytes = key.bytes;
+    let n = key.len;
     let f = descend(
         image,
         newest,
@@ -58,7 +59,7 @@ pub(crate) fn root_at(image: &[u8], newest: Chunk, memory: &mut [u64], map: u32)
         newest.root,
         0,
         Kind::Text,
-        &key[..n],
+        &bytes[..n],
         QUESTIONS,
     );
     root_by(image, f)

@@ -1,8 +1,8 @@
 // One step of the walk in a store that is open.
-use super::SMALL;
 use super::down::down_by;
 use super::down::leftmost_from;
 use super::read::root_at;
+use super::room::few_words;
 use cursor::Down;
 use cursor::Stepped;
 use cursor::Walk;
@@ -95,10 +95,6 @@ fn advance_with(
 pub fn advance(image: &[u8], newest: Chunk, map: u32, kind: Kind, w: Walk) -> Stepped
     ensures { λ r. ⌜ r ≡ stepIn (now (image .entry)) newest map kind w ⌝ }
 {
-    if image.len() < SMALL {
-        let mut memory = [0u64; 512];
-        return advance_with(image, newest, &mut memory, map, kind, w);
-    }
-    let mut memory = [0u64; 8192];
+    let mut memory = few_words();
     advance_with(image, newest, &mut memory, map, kind, w)
 }

@@ -1,8 +1,11 @@
-use mathlib.Core.Path.{sym, _∙_, ap}
+use mathlib.Core.Path.{_≡_, sym, _∙_, ap}
 use native.Mathlib.Omega.{arith}
 use denote.Ref.{now}
-use lib.Seq.{length-take-le}
+use lib.ListN.{take}
+use lib.Seq.{length-take-le, take-all}
 use Rattle.refusal.specs.Refusal.{refuse}
+use Rattle.metadata.specs.Keys.{nameKey}
+use Rattle.metadata.specs.KeyLaws.{padded-text, padded-inside}
 use Rattle.store.specs.AnswerLaws.{name-long, id-sought}
 use borrow.Author.Needs.{needs}
 use Rattle.store.proofs.named_with.Statement.{statement}
@@ -13,11 +16,12 @@ returns c =
     let a = c .before .before .before .before .before .args in
     ap refuse (c .new .ensures) ∙ sym (name-long (now (a .image)) (a .newest) (now (a .name)) (c .before .if1 .taken))
 
-array-share-prefix-key : tie.Need-array-share-prefix-key
-array-share-prefix-key c = c .before .name-key .ensures .inside
+array-share-prefix-bytes : tie.Need-array-share-prefix-bytes
+array-share-prefix-bytes c = rw (c .before .before .name-key .ensures) (padded-inside 1005 (nameKey (take 1000 (now (c .before .before .before .before .before .before .before .args .name)))))
 
 slice-aggregate-descend : tie.Need-slice-aggregate-descend
-slice-aggregate-descend c = sym (length-take-le _ _ (c .before .before .name-key .ensures .inside))
+slice-aggregate-descend c =
+    sym (length-take-le _ _ (rw (c .before .before .before .name-key .ensures) (padded-inside 1005 (nameKey (take 1000 (now (c .before .before .before .before .before .before .before .before .args .name)))))))
 
 descend-requires : tie.Need-descend-requires
 descend-requires c κs = (omega arith, c .before .before .before .before .before .before .before .before .pre)
@@ -25,7 +29,10 @@ descend-requires c κs = (omega arith, c .before .before .before .before .before
 returns-2 : tie.Need-returns-2
 returns-2 c =
     let a = c .before .before .before .before .before .before .before .before .before .before .before .before .args in
-    c .id-by .ensures ∙ id-sought (now (a .image)) (a .newest) _ (c .before .before .before .descend .result) (c .before .before .before .descend .ensures .1) (now (a .name)) (c .before .before .before .before .before .before .before .before .if1 .left) (c .before .before .before .before .before .before .name-key .ensures .text)
+    let d = c .before .before .before .descend in
+    let short = c .before .before .before .before .before .before .before .before .if1 .left in
+    let whole : take 1000 (now (a .name)) ≡ now (a .name) = take-all 1000 (now (a .name)) short in
+    c .id-by .ensures ∙ id-sought (now (a .image)) (a .newest) _ (d .result) (d .ensures .1) (now (a .name)) short (rw (c .before .before .before .before .before .before .before .name-key .ensures, whole) (padded-text 1005 (nameKey (now (a .name)))))
 
 pub named-with-spec : {M : Type 1} → statement M
 named-with-spec =
@@ -34,7 +41,7 @@ named-with-spec =
     (λ c κs. search needs)
     returns
     (λ c κs. search needs)
-    array-share-prefix-key
+    array-share-prefix-bytes
     slice-aggregate-descend
     descend-requires
     (λ c κs. search needs)

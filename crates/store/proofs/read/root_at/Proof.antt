@@ -2,6 +2,8 @@ use mathlib.Core.Path.{sym, _∙_}
 use native.Mathlib.Omega.{arith}
 use denote.Ref.{now}
 use lib.Seq.{length-take-le}
+use Rattle.metadata.specs.Keys.{rootKey}
+use Rattle.metadata.specs.KeyLaws.{padded-text, padded-inside}
 use Rattle.store.specs.AnswerLaws.{root-metadata, root-sought}
 use borrow.Author.Needs.{needs}
 use Rattle.store.proofs.read.root_at.Statement.{statement}
@@ -12,29 +14,28 @@ returns c =
     let a = c .before .before .before .args in
     (c .before .before .before .pre, sym (root-metadata (now (a .image)) (a .newest) (a .map) (c .if1 .taken)))
 
-array-share-prefix-key : tie.Need-array-share-prefix-key
-array-share-prefix-key c = c .before .number-key .ensures .inside
+array-share-prefix-bytes : tie.Need-array-share-prefix-bytes
+array-share-prefix-bytes c = rw (c .before .before .root-key .ensures) (padded-inside 22 (rootKey (c .before .before .before .before .before .before .args .map)))
 
 slice-aggregate-descend : tie.Need-slice-aggregate-descend
-slice-aggregate-descend c = sym (length-take-le _ _ (c .before .before .number-key .ensures .inside))
+slice-aggregate-descend c = sym (length-take-le _ _ (rw (c .before .before .before .root-key .ensures) (padded-inside 22 (rootKey (c .before .before .before .before .before .before .before .args .map)))))
 
 descend-requires : tie.Need-descend-requires
-descend-requires c κs = (omega arith, c .before .before .before .before .before .before .before .before .pre)
+descend-requires c κs = (omega arith, c .before .before .before .before .before .before .before .pre)
 
 returns-2 : tie.Need-returns-2
 returns-2 c =
-    let a = c .before .before .before .before .before .before .before .before .before .before .before .before .args in
+    let a = c .before .before .before .before .before .before .before .before .before .before .before .args in
     let d = c .before .before .before .descend in
-    (d .ensures .0, c .root-by .ensures ∙ root-sought (now (a .image)) (a .newest) _ (d .result) (d .ensures .1) (a .map) (c .before .before .before .before .before .before .before .before .before .if1 .left) (c .before .before .before .before .before .before .number-key .ensures .text))
+    (d .ensures .0, c .root-by .ensures ∙ root-sought (now (a .image)) (a .newest) _ (d .result) (d .ensures .1) (a .map) (c .before .before .before .before .before .before .before .before .if1 .left) (rw (c .before .before .before .before .before .before .before .root-key .ensures) (padded-text 22 (rootKey (a .map)))))
 
 pub root-at-spec : {M : Type 1} → statement M
 root-at-spec =
     tie.close
     (tie.spec
     returns
-    (λ c. search needs)
     (λ c κs. search needs)
-    array-share-prefix-key
+    array-share-prefix-bytes
     slice-aggregate-descend
     descend-requires
     (λ c κs. search needs)

@@ -3,8 +3,8 @@ use native.Mathlib.Omega.{arith}
 use lib.ListN.{length, drop, length-drop, drop-of-length-le}
 use lib.Seq.{take-all, take-nil}
 use borrow.Author.Needs.{needs}
-use Rattle.store.proofs.keys.tail.Statement.{statement}
-use Rattle.store.proofs.keys.tail.Tie as tie
+use Rattle.metadata.proofs.keys.tail.Statement.{statement}
+use Rattle.metadata.proofs.keys.tail.Tie as tie
 
 returns : tie.Need-returns
 returns c =
