@@ -8,12 +8,14 @@ use key::Kind;
 use key::Sized;
 use numeral::Numeral;
 use order::Order;
+use position::Position;
 ghost use mathlib.Core.Path.{_≡_};
 ghost use Prim.Native.Nat.{_+_};
 ghost use lib.ListN.{getD, getElem?};
 ghost use Rattle.key.specs.Key.{keyOf, compareKeys};
 ghost use Rattle.tree.specs.Asking.{findIn};
 ghost use Rattle.tree.specs.InnerPage.{lead};
+ghost use Rattle.position.specs.Position.{ofBits};
 ghost use Rattle.content.specs.Content.{keysIn, entriesIn, positionsIn, countsIn, pick, probeAt, foundOf, pickedOf, nthOf};
 
 // A key against a given one: not greater, and whether it is equal, with the place after it; or
@@ -72,21 +74,29 @@ pub fn lead_keys(s: &[u8], kind: Kind, n: u32, keys: usize, key: &[u8]) -> u32
 }
 
 // The position of child number `k`, 0 past the last.
-pub fn child(s: &[u8], n: u32, positions: usize, k: u32) -> u64
-    ensures { λ r. ⌜ r ≡ getD (positionsIn (now (s .entry)) (n + 1) positions) k 0 ⌝ }
+pub fn child(s: &[u8], n: u32, positions: usize, k: u32) -> Position
+    ensures { λ r. ⌜ r ≡ ofBits (getD (positionsIn (now (s .entry)) (n + 1) positions) k 0) ⌝ }
 {
     if n < k {
-        return 0;
+        return Position {
+            bits: Position::EMPTY,
+        };
     }
     if s.len() < positions {
-        return 0;
+        return Position {
+            bits: Position::EMPTY,
+        };
     }
     let room = s.len() - positions;
     let skip = 8 * k as usize;
     if room < skip + 8 {
-        return 0;
+        return Position {
+            bits: Position::EMPTY,
+        };
     }
-    numeral::be64(s, positions + skip)
+    Position {
+        bits: numeral::be64(s, positions + skip),
+    }
 }
 
 // The recorded count of child number `k`, 0 past the last.

@@ -12,6 +12,8 @@ use mathlib.Core.Option.{Option, none, some}
 use lib.Dec.{eqb, ltb, leb}
 use lib.ListN.{getD, getElem?, take, replicate}
 use Rattle.refusal.specs.Refusal.{unsound}
+use Rattle.position.specs.declared.Position.{Position}
+use Rattle.position.specs.Position.{ofBits}
 use Rattle.key.specs.declared.Kind.{Kind}
 use Rattle.key.specs.Key.{Key}
 use Rattle.page.specs.declared.Judged.{Judged}
@@ -38,7 +40,8 @@ unfoldable pub afterChild : List ℕ → ℕ → ℕ → ℕ → ℕ → Bool �
 afterChild image n positions e i true = after.Refused unsound
 afterChild image n positions e i false =
     let ps = positionsIn (take e image) (n + 1) positions in
-    cond (ltb n i) (after.Refused unsound) (cond (eqb i n) (after.Last (getD ps i 0)) (after.Child (getD ps i 0) (getD ps (i + 1) 0)))
+    cond (ltb n i) (after.Refused unsound) 
+    (cond (eqb i n) (after.Last (ofBits (getD ps i 0))) (after.Child (ofBits (getD ps i 0)) (ofBits (getD ps (i + 1) 0))))
 
 -- a leaf takes the last
 unfoldable pub afterOf : List ℕ → Kind → ℕ → Bool → Judged → After
@@ -52,10 +55,11 @@ afterOf image kind i last (judged.Inner n positions counts keys e total) = after
 unfoldable pub firstOf : List ℕ → Kind → Judged → After
 firstOf image kind (judged.Refused r) = after.Refused r
 firstOf image kind (judged.Leaf n keys values e) = entryAfter (getElem? (entriesIn (take e image) kind n keys values) 0)
-firstOf image kind (judged.Inner n positions counts keys e total) = after.Last (getD (positionsIn (take e image) (n + 1) positions) 0 0)
+firstOf image kind (judged.Inner n positions counts keys e total) = 
+    after.Last (ofBits (getD (positionsIn (take e image) (n + 1) positions) 0 0))
 
 -- where a leaf has no entry more
-unfoldable pub overOf : ℕ → ℕ → ℕ → Down
+unfoldable pub overOf : ℕ → ℕ → Position → Down
 overOf found number position = cond (eqb found 0) down.Over (down.Left (found - 1) number position)
 
 -- ## The state

@@ -2,6 +2,7 @@
 use content::Nth;
 use key::Kind;
 use page::Judged;
+use position::Position;
 use refusal::Refusal;
 ghost use mathlib.Core.Path.{_≡_};
 ghost use Rattle.cursor.specs.Steps.{afterOf, afterChild, firstOf, overOf};
@@ -16,10 +17,10 @@ pub enum After {
         len: usize,
     },
     Over,
-    Last(u64),
+    Last(Position),
     Child {
-        position: u64,
-        after: u64,
+        position: Position,
+        after: Position,
     },
     Refused(Refusal),
 }
@@ -38,7 +39,7 @@ pub enum Down {
     Left {
         level: u32,
         number: u32,
-        position: u64,
+        position: Position,
     },
     Over,
     Refused(Refusal),
@@ -129,7 +130,7 @@ pub fn after_at(image: &[u8], kind: Kind, j: Judged, i: u32, last: bool) -> Afte
 
 // What is next where a leaf has no entry more: under the child found on the way down, if one was.
 // `found` is its level counted from 1.
-pub fn over_at(found: u32, number: u32, position: u64) -> Down
+pub fn over_at(found: u32, number: u32, position: Position) -> Down
     ensures { λ r. ⌜ r ≡ overOf found number position ⌝ }
 {
     if found == 0 {

@@ -90,7 +90,7 @@ idSaid (id.Is n) = ok n
 idSaid (id.Refused r) = refuse r
 
 abbrev pub rootSaid : Root → Outcome ℕ
-rootSaid (root.At p) = ok p
+rootSaid (root.At p) = ok (p .bits)
 rootSaid (root.Refused r) = refuse r
 
 abbrev pub needOf : Looked → ℕ

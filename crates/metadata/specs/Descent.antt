@@ -5,6 +5,7 @@
 use Prim.Native.Nat.{ℕ, max}
 use mathlib.Core.Option.{Option, none, some}
 use Rattle.refusal.specs.Refusal.{Outcome, ok, refuse}
+use Rattle.position.specs.Position.{ofBits}
 use Rattle.key.specs.Key.{Key, compareKeys}
 use Rattle.tree.specs.Page.{Page, leaf, inner}
 use Rattle.tree.specs.Asking.{findIn, childFor}
@@ -25,7 +26,7 @@ foundStep (some e) = step.Found (e .value .at) (e .value .len)
 unfoldable pub stepOf : Key → Outcome (Page Key Entry) → Step
 stepOf k (refuse r) = step.Refused r
 stepOf k (ok (leaf es)) = foundStep (findIn compareKeys k es)
-stepOf k (ok (inner cs)) = step.Child (childFor compareKeys k cs)
+stepOf k (ok (inner cs)) = step.Child (ofBits (childFor compareKeys k cs))
 
 abbrev pub advanceBy : ℕ → Step → Advance
 advanceBy need (step.Child p) = To p need

@@ -6,6 +6,8 @@ use mathlib.Core.Option.{Option, none, some}
 use native.Mathlib.Omega.{arith}
 use lib.ListN.{getD, take}
 use Rattle.refusal.specs.declared.Refusal.{Refusal}
+use Rattle.position.specs.declared.Position.{Position}
+use Rattle.position.specs.Position.{ofBits}
 use Rattle.key.specs.declared.Kind.{Kind}
 use Rattle.key.specs.Key.{Key, compareKeys}
 use Rattle.tree.specs.Asking.{findIn}
@@ -51,7 +53,7 @@ module _ (image : List ℕ) (c : Place) (p map : ℕ) (kind : Kind) (k : Key) wh
 
   pub inner-leads : {n positions counts keys end total : ℕ}
       → judgedAt image c p map kind ≡ judged.Inner n positions counts keys end total → (s : List ℕ) → s ≡ take end image
-      → (j x : ℕ) → j ≡ lead compareKeys k (keysIn s kind n keys) → x ≡ getD (positionsIn s (n + 1) positions) j 0
+      → (j : ℕ) (x : Position) → j ≡ lead compareKeys k (keysIn s kind n keys) → x ≡ ofBits (getD (positionsIn s (n + 1) positions) j 0)
       → stepOf k (pageIn image c p map kind) ≡ step.Child x
   unfolding stepOf pageIn pageOf
   inner-leads {n} {positions} {counts} {keys} e s i j x a b =

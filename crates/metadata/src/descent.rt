@@ -14,7 +14,7 @@ ghost use Rattle.metadata.specs.Descent.{stepOf, advanceOf};
 
 // One page of a descent: the child to go on at, or what a leaf or a refusal answers.
 pub enum Step {
-    Child(u64),
+    Child(Position),
     Found { at: usize, len: usize },
     Absent,
     Refused(Refusal),
@@ -22,15 +22,15 @@ pub enum Step {
 
 // A descent after one page more: the position to go on at, or the answer.
 pub enum Advance {
-    To { position: u64, need: u32 },
+    To { position: Position, need: u32 },
     Done(Looked),
 }
 
 // What the page at position `p` of a located chunk answers a lookup of `key`.
-fn step_at(image: &[u8], place: Place, p: u64, map: u32, kind: Kind, key: &[u8]) -> Step
-    ensures { λ r. ⌜ r ≡ stepOf (keyOf kind (now (key .entry))) (pageIn (now (image .entry)) place p map kind) ⌝ }
+fn step_at(image: &[u8], place: Place, p: Position, map: u32, kind: Kind, key: &[u8]) -> Step
+    ensures { λ r. ⌜ r ≡ stepOf (keyOf kind (now (key .entry))) (pageIn (now (image .entry)) place (p .bits) map kind) ⌝ }
 {
-    let j = page::judge(image, place, Position { bits: p }, map, kind);
+    let j = page::judge(image, place, p, map, kind);
     match j {
         Judged::Refused(r) => Step::Refused(r),
         Judged::Leaf {
@@ -65,12 +65,12 @@ pub fn advance_at(
     image: &[u8],
     l: Told,
     need: u32,
-    p: u64,
+    p: Position,
     map: u32,
     kind: Kind,
     key: &[u8],
 ) -> Advance
-    ensures { λ r. ⌜ r ≡ advanceOf (λ x. stepOf (keyOf kind (now (key .entry))) (pageIn (now (image .entry)) x p map kind)) need l ⌝ }
+    ensures { λ r. ⌜ r ≡ advanceOf (λ x. stepOf (keyOf kind (now (key .entry))) (pageIn (now (image .entry)) x (p .bits) map kind)) need l ⌝ }
 {
     match l {
         Told::Refused(r) => Advance::Done(Looked::Refused(r)),

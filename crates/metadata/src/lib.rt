@@ -17,6 +17,7 @@ use numeral::Number;
 use opening::Chunk;
 use opening::Standing;
 use page::Place;
+use position::Position;
 use refusal::Refusal;
 ghost use mathlib.Core.Path.{_≡_};
 ghost use Rattle.metadata.specs.Answers.{placeOf, standingBy, idOf, rootOf, idSaid, rootSaid, locatedBy, valueBy, idBy, rootBy};
@@ -45,7 +46,7 @@ pub enum Id {
 }
 
 pub enum Root {
-    At(u64),
+    At(Position),
     Refused(Refusal),
 }
 
@@ -133,7 +134,7 @@ fn root_of(n: Number) -> Root
     ensures { λ r. ⌜ rootSaid r ≡ rootOf n ⌝ }
 {
     match n {
-        Number::Value(v) => Root::At(v),
+        Number::Value(v) => Root::At(Position { bits: v }),
         Number::Bad => Root::Refused(Refusal::new(Refusal::NOT_A_NUMBER)),
     }
 }
@@ -146,7 +147,9 @@ pub fn root_by(image: &[u8], f: Looked) -> Root
         Looked::Found { at, len, need: _ } => {
             root_of(numeral::read_hex(opening::area_at(image, at, len)))
         }
-        Looked::Absent { need: _ } => Root::At(0),
+        Looked::Absent { need: _ } => Root::At(Position {
+            bits: Position::EMPTY,
+        }),
         Looked::Refused(r) => Root::Refused(r),
     }
 }

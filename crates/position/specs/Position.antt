@@ -5,6 +5,7 @@
 --     FIELD     chunk id    offset      code      type: 0 leaf, 1 inner
 --
 --   chunkOf p, offsetOf p, codeOf p, typeOf p    the fields of the position p
+--   ofBits p               the position of those bits, as the code hands it on
 --   isEmpty p              "Position 0 as a root is the empty map."
 --   positionOf c o k t     the position with those fields
 --   madeOf c o k t         the same, or out of range where a field is wider than its bits
@@ -45,6 +46,9 @@ offsetOf p = p / (types * codes) % offsets
 
 abbrev pub chunkOf : ℕ → ℕ
 chunkOf p = p / (types * codes * offsets)
+
+abbrev pub ofBits : ℕ → Position
+ofBits p = record { bits = p }
 
 abbrev pub isEmpty : ℕ → Bool
 isEmpty p = eqb p 0

@@ -27,7 +27,7 @@ impl Position {
 
     pub const CHUNK_BITS: u32 = 26;
 
-    // As a root: the empty map.
+    // The bits of the empty root, which is the empty map.
     pub const EMPTY: u64 = 0;
 
     // How many values a field has.

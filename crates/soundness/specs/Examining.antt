@@ -19,6 +19,7 @@ use Rattle.tree.specs.Examination.{Report}
 use Rattle.tree.specs.Rising.{keysTest}
 use Rattle.item.specs.Item.{itemAt, countLimit}
 use Rattle.page.specs.Judged.{keyForm}
+use Rattle.position.specs.Position.{ofBits}
 use Rattle.content.specs.Content.{keysIn, positionsIn}
 use Rattle.rising.specs.declared.Bound.{Bound}
 use Rattle.rising.specs.declared.Bound.the-variants as bound
@@ -76,7 +77,7 @@ childOf image kind b j counts keys hi =
     let c = recordedAt s counts in
     let k = cond (ltb j (b .n)) (separatorAt s kind keys) (record { bound = hi; next = keys }) in
     record {
-      position = getD (positionsIn s (b .n + 1) (b .positions)) j 0;
+      position = ofBits (getD (positionsIn s (b .n + 1) (b .positions)) j 0);
       count = c .value;
       hi = k .bound;
       counts = c .next;

@@ -2,6 +2,7 @@
 use key::Kind;
 use key::Sized;
 use numeral::Numeral;
+use position::Position;
 use refusal::Refusal;
 use rising::Bound;
 use rising::keys_lie;
@@ -38,7 +39,7 @@ pub struct Span {
 // A child: its position, its recorded count and its right bound; and the places of the next child's
 // count and separator.
 pub struct Child {
-    pub position: u64,
+    pub position: Position,
     pub count: u64,
     pub hi: Bound,
     pub counts: usize,
