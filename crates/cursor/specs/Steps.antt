@@ -40,7 +40,7 @@ unfoldable pub afterChild : List ℕ → ℕ → ℕ → ℕ → ℕ → Bool �
 afterChild image n positions e i true = after.Refused unsound
 afterChild image n positions e i false =
     let ps = positionsIn (take e image) (n + 1) positions in
-    cond (ltb n i) (after.Refused unsound) 
+    cond (ltb n i) (after.Refused unsound)
     (cond (eqb i n) (after.Last (ofBits (getD ps i 0))) (after.Child (ofBits (getD ps i 0)) (ofBits (getD ps (i + 1) 0))))
 
 -- a leaf takes the last
@@ -55,7 +55,7 @@ afterOf image kind i last (judged.Inner n positions counts keys e total) = after
 unfoldable pub firstOf : List ℕ → Kind → Judged → After
 firstOf image kind (judged.Refused r) = after.Refused r
 firstOf image kind (judged.Leaf n keys values e) = entryAfter (getElem? (entriesIn (take e image) kind n keys values) 0)
-firstOf image kind (judged.Inner n positions counts keys e total) = 
+firstOf image kind (judged.Inner n positions counts keys e total) =
     after.Last (ofBits (getD (positionsIn (take e image) (n + 1) positions) 0 0))
 
 -- where a leaf has no entry more

@@ -1,14 +1,15 @@
 -- Laws of positions: making and taking apart are inverse.
 use Prim.Native.Nat.{ℕ, _+_, _*_, _/_, _%_, _^_, _<_, _≤_}
-use mathlib.Core.Path.{_≡_, ap}
+use mathlib.Core.Path.{_≡_, sym, ap, _∙_}
+use mathlib.Core.Bool.{Bool, true, false}
 use native.Mathlib.Nat.{div-div-eq-div-mul, mul-le-mul}
 use native.Mathlib.Omega.{arith}
-use borrow.Author.Tests.{lt-ltb}
+use borrow.Author.Tests.{lt-ltb, eqb-true, eqb-false}
 use lib.Pow.{pow-mono}
 use Rattle.position.specs.declared.Position.{Position}
 use Rattle.position.specs.declared.Made.{Made}
 use Rattle.position.specs.declared.Made.the-variants.{At, OutOfRange}
-use Rattle.position.specs.Position.{chunks, offsets, codes, types, chunkOf, offsetOf, codeOf, typeOf, positionOf, madeOf}
+use Rattle.position.specs.Position.{chunks, offsets, codes, types, chunkOf, offsetOf, codeOf, typeOf, isEmpty, positionOf, madeOf}
 
 -- the fields of any 64 bits make them again
 pub position-of-fields : (p : ℕ) → positionOf (chunkOf p) (offsetOf p) (codeOf p) (typeOf p) ≡ p
@@ -46,3 +47,11 @@ bound-small code h =
     let most : (2 + code % 2) * 2 ^ (4 + code / 2) ≤ 3 * 2 ^ 19 =
     mul-le-mul {n₁ = 2 + code % 2} {m₁ = 2 ^ (4 + code / 2)} {n₂ = 3} {m₂ = 2 ^ 19} (omega arith) unit in
     omega (arith, most)
+
+-- ## Empty or not, by the code's test
+module _ {b : Bool} {p : ℕ} (e : b ≡ isEmpty p) where
+  pub empty-zero : b ≡ true → p ≡ 0
+  empty-zero h = eqb-true p 0 (sym e ∙ h)
+
+  pub full-other : b ≡ false → ¬ (p ≡ 0)
+  full-other h = eqb-false p 0 (sym e ∙ h)

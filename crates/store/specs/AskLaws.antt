@@ -12,6 +12,8 @@ use native.Mathlib.Omega.{arith}
 use lib.ListN.{length, getD, getElem?, take}
 use Rattle.refusal.specs.declared.Refusal.{Refusal}
 use Rattle.refusal.specs.Refusal.{Outcome, ok, bind, badIndex, tooDeep}
+use Rattle.position.specs.declared.Position.{Position}
+use Rattle.position.specs.Position.{ofBits}
 use Rattle.key.specs.declared.Kind.{Kind}
 use Rattle.key.specs.Key.{Key, compareKeys}
 use Rattle.tree.specs.Page.{nth, All}
@@ -55,7 +57,7 @@ nthTurn (nth.Entry key size at len) = turn.Done (fetched.At key size at len)
 nthTurn nth.Out = turn.Done (fetched.Refused badIndex)
 
 abbrev pub pickedTurn : List ℕ → Picked → Turn
-pickedTurn ps (picked.Child number rest) = turn.Child (getD ps number 0) rest
+pickedTurn ps (picked.Child number rest) = turn.Child (ofBits (getD ps number 0)) rest
 pickedTurn ps picked.Over = turn.Done (fetched.Refused badIndex)
 
 nth-turn : (o : Option (Key × Entry)) → nthTurn (nthOf o) ≡ entryTurn o
@@ -88,7 +90,7 @@ module _ (image : List ℕ) (kind : Kind) (i : ℕ) where
 
 module _ (child : ℕ → ℕ → Outcome (Key × Entry)) where
   abbrev pub wentOn : Turn → Fetched
-  wentOn (turn.Child p rest) = fetchedOf (child rest p)
+  wentOn (turn.Child p rest) = fetchedOf (child rest (p .bits))
   wentOn (turn.Done f) = f
 
   entry-turn : (i : ℕ) (es : List (Key × Entry)) → fetchedOf (nth i es) ≡ wentOn (entryTurn (getElem? es i))
@@ -156,8 +158,8 @@ module _ (image : List ℕ) (newest : Chunk) (map : ℕ) (kind : Kind) where
               rw (reader-judged image newest map kind p, ← e, f, less)
               (index-turn (index (reader image newest map kind) l) image kind i j (rw (← e) at (judged-all image newest map kind p)))
 
-      pub index-child : {q rest : ℕ} → t ≡ turn.Child q rest
-          → fetchedOf (index (reader image newest map kind) levels i p) ≡ fetchedOf (index (reader image newest map kind) (levels - 1) rest q)
+      pub index-child : {q : Position} {rest : ℕ} → t ≡ turn.Child q rest
+          → fetchedOf (index (reader image newest map kind) levels i p) ≡ fetchedOf (index (reader image newest map kind) (levels - 1) rest (q .bits))
       index-child g = rw g at index-level
 
       pub index-done : {a : Fetched} → t ≡ turn.Done a → fetchedOf (index (reader image newest map kind) levels i p) ≡ a
@@ -185,16 +187,16 @@ module _ (image : List ℕ) (newest : Chunk) (map : ℕ) (kind : Kind) where
     rooted : {A : Type 0} (ask : ℕ → Outcome A) {s : Root} → r ≡ s → bind (rootSaid s) ask ≡ bind (mapRoot image newest map) ask
     rooted ask f = rw (← f, e)
 
-    module _ {p : ℕ} (f : r ≡ root.At p) where
-      pub lookup-rooted : (k : Key) (l : Looked) → Sought image newest map kind p k 8 l → valueBy l ≡ valueOf (lookupIn image newest map kind k)
+    module _ {p : Position} (f : r ≡ root.At p) where
+      pub lookup-rooted : (k : Key) (l : Looked) → Sought image newest map kind (p .bits) k 8 l → valueBy l ≡ valueOf (lookupIn image newest map kind k)
       unfolding lookupIn
-      lookup-rooted k l s = value-sought image newest map kind p k l s ∙ ap valueOf (rooted _ f)
+      lookup-rooted k l s = value-sought image newest map kind (p .bits) k l s ∙ ap valueOf (rooted _ f)
 
-      pub index-rooted : (i : ℕ) → fetchedOf (mapIndex (reader image newest map kind) i p) ≡ fetchedOf (indexIn image newest map kind i)
+      pub index-rooted : (i : ℕ) → fetchedOf (mapIndex (reader image newest map kind) i (p .bits)) ≡ fetchedOf (indexIn image newest map kind i)
       unfolding indexIn
       index-rooted i = ap fetchedOf (rooted _ f)
 
-      pub count-rooted : countedOf (mapCount (reader image newest map kind) p) ≡ countedOf (countIn image newest map kind)
+      pub count-rooted : countedOf (mapCount (reader image newest map kind) (p .bits)) ≡ countedOf (countIn image newest map kind)
       unfolding countIn
       count-rooted = ap countedOf (rooted _ f)
 

@@ -11,7 +11,7 @@ use mathlib.Core.Option.{Option, none, some}
 use lib.Dec.{eqb}
 use lib.ListN.{getD, getElem?, take}
 use Rattle.refusal.specs.Refusal.{Outcome, ok, refuse, bind, outOfPlace, badIndex}
-use Rattle.position.specs.Position.{chunkOf}
+use Rattle.position.specs.Position.{chunkOf, ofBits}
 use Rattle.key.specs.declared.Kind.{Kind}
 use Rattle.key.specs.Key.{Key, compareKeys}
 use Rattle.tree.specs.Page.{branch}
@@ -77,7 +77,7 @@ entryTurn (some e) = turn.Done (fetchedOf (ok e))
 entryTurn none = turn.Done (fetched.Refused badIndex)
 
 abbrev pub childTurn : List ℕ → Option (ℕ × ℕ) → Turn
-childTurn ps (some c) = turn.Child (getD ps (c .0) 0) (c .1)
+childTurn ps (some c) = turn.Child (ofBits (getD ps (c .0) 0)) (c .1)
 childTurn ps none = turn.Done (fetched.Refused badIndex)
 
 unfoldable pub turnOf : List ℕ → Kind → ℕ → Judged → Turn

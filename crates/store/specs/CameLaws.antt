@@ -124,7 +124,7 @@ module _ (image : List ℕ) (newest : Chunk) (m : ℕ) (kind : Kind) (levels : �
             keys-next (cutOf image b) (b .n - suc j) keys j image kind (separatorsOf image kind b) (text [])
             (omega (arith, w .all-keys)) (rw e at (a .keys-left))
 
-        position-here : getD (positionsOf image b) j 0 ≡ c .position
+        position-here : getD (positionsOf image b) j 0 ≡ c .position .bits
         unfolding childOf
         position-here = rw is
 
@@ -139,7 +139,7 @@ module _ (image : List ℕ) (newest : Chunk) (m : ℕ) (kind : Kind) (levels : �
 
         -- the child, and what is left to do
         abbrev pub outcome : Outcome Report
-        outcome = childIn image newest m kind levels (boundKey image kind lo) (boundKey image kind (c .hi)) (c .position)
+        outcome = childIn image newest m kind levels (boundKey image kind lo) (boundKey image kind (c .hi)) (c .position .bits)
 
         module _ (h : j < b .n) where
           bound-here : boundKey image kind (c .hi) ≡ some (getD (separatorsOf image kind b) j (text []))

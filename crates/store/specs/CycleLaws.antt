@@ -9,6 +9,7 @@ use mathlib.Core.Option.{Option, none, some}
 use native.Mathlib.Omega.{arith}
 use Rattle.refusal.specs.declared.Refusal.{Refusal}
 use Rattle.refusal.specs.Refusal.{Outcome, ok, refuse, ninthQuestion, outOfPlace, tooDeep}
+use Rattle.position.specs.declared.Position.{Position}
 use Rattle.key.specs.declared.Kind.{Kind}
 use Rattle.key.specs.declared.Kind.the-variants.{Text}
 use Rattle.key.specs.Key.{Key, keyOf, compareKeys}
@@ -106,7 +107,7 @@ module _ (image : List ℕ) (newest : Chunk) where
         (page-zero (metadata image newest) (λ l p. pageIn image l p map kind) e q))
 
     abbrev Advanced : ℕ → Advance → Type 0
-    Advanced left (To p need) = Came need left p
+    Advanced left (To p need) = Came need left (p .bits)
     Advanced left (Done r) = Sought image newest map kind root k q r
 
     module _ {need left p : ℕ} (other : ¬ (p ≡ 0)) (a : Came need (suc left) p) where
@@ -162,7 +163,7 @@ module _ (image : List ℕ) (newest : Chunk) where
       on : Advanced (left - 1) x
       on = rw is (advanced need left p h other a l (rw chunk at t))
 
-      pub came-on : {position n : ℕ} → x ≡ To position n → Came n (left - 1) position
+      pub came-on : {position : Position} {n : ℕ} → x ≡ To position n → Came n (left - 1) (position .bits)
       came-on e = rw e at on
 
       pub sought-done : {r : Looked} → x ≡ Done r → Sought image newest map kind root k q r

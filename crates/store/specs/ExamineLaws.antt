@@ -12,6 +12,7 @@ use native.Mathlib.Numerals.{add-one, sub-one}
 use lib.ListN.{length, take}
 use Rattle.refusal.specs.declared.Refusal.{Refusal}
 use Rattle.refusal.specs.Refusal.{Outcome, ok, refuse, bind, tooDeep, unsound}
+use Rattle.position.specs.declared.Position.{Position}
 use Rattle.key.specs.declared.Kind.{Kind}
 use Rattle.key.specs.Key.{compareKeys}
 use Rattle.key.specs.Laws.{key-order}
@@ -136,14 +137,14 @@ module _ (image : List ℕ) (newest : Chunk) (m : ℕ) (kind : Kind) (r : Root) 
   unfolding examinedOf
   map-refused e = by-root (ap rootSaid e)
 
-  module _ {p : ℕ} (e : r ≡ root.At p) where
-    pub map-empty : p ≡ 0 → examined.Passed (record { entries = 0; pages = 0; depth = 0 }) ≡ examinedOf (examineIn image newest m kind)
+  module _ {p : Position} (e : r ≡ root.At p) where
+    pub map-empty : p .bits ≡ 0 → examined.Passed (record { entries = 0; pages = 0; depth = 0 }) ≡ examinedOf (examineIn image newest m kind)
     unfolding examinedOf mapExamine
     map-empty z = by-root (ap rootSaid e ∙ ap ok z)
 
-    pub map-examined : ¬ (p ≡ 0) → examined-at image newest m kind 16 true bound.Open bound.Open p ≡ examinedOf (examineIn image newest m kind)
+    pub map-examined : ¬ (p .bits ≡ 0) → examined-at image newest m kind 16 true bound.Open bound.Open (p .bits) ≡ examinedOf (examineIn image newest m kind)
     unfolding mapExamine boundKey
-    map-examined other = go p other (by-root (ap rootSaid e))
+    map-examined other = go (p .bits) other (by-root (ap rootSaid e))
       where
         go : (q : ℕ) → ¬ (q ≡ 0)
             → examinedOf (mapExamine compareKeys (reader image newest m kind) q) ≡ examinedOf (examineIn image newest m kind)

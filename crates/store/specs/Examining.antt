@@ -1,25 +1,47 @@
 -- The examination of a map in a store that is open, after document 01; and the words of its private contracts.
 --
 --   examineIn image newest map kind    the examination of a map by its id and kind
+--   examinedUnder, examinedChildren    what the examination of a page, of an inner page's children gives back
+--   WholePage                          nothing is missing of an inner page that was judged
 --   tallied                            the children so far and one more
 use Prim.Native.Nat.{ℕ, _+_, _^_, _<_, max}
-use mathlib.Core.Bool.{cond}
+use mathlib.Core.Bool.{Bool, false, cond}
 use mathlib.Core.List.{List}
 use lib.Dec.{eqb}
+use lib.ListN.{take}
 use Rattle.refusal.specs.Refusal.{Outcome, unsound}
 use Rattle.key.specs.declared.Kind.{Kind}
 use Rattle.key.specs.Key.{compareKeys}
-use Rattle.tree.specs.Examination.{Report, mapExamine}
+use Rattle.tree.specs.Examination.{Report, examine, examineChildren, mapExamine}
 use Rattle.opening.specs.declared.chunk.Chunk.{Chunk}
+use Rattle.content.specs.WholeLaws.{InnerWhole, childrenIn}
+use Rattle.rising.specs.Rising.{boundKey}
+use Rattle.soundness.specs.declared.Span.{Span}
+use Rattle.soundness.specs.declared.Inner.{Inner}
+use Rattle.soundness.specs.Examining.{examinedOf}
 use Rattle.soundness.specs.declared.Examined.{Examined}
 use Rattle.soundness.specs.declared.Examined.the-variants as examined
 use Rattle.soundness.specs.declared.Report.{Report as Figures}
-use Rattle.store.specs.Store.{reader}
+use Rattle.store.specs.declared.Map.{Map}
+use Rattle.store.specs.Store.{reader, pagesOf}
 use Rattle.store.specs.Asking.{inMap}
 
 -- ## The examination
 unfoldable pub examineIn : List ℕ → Chunk → ℕ → Kind → Outcome Report
 examineIn image newest map kind = inMap image newest map (mapExamine compareKeys (reader image newest map kind))
+
+abbrev pub examinedUnder : List ℕ → Map → ℕ → Bool → Span → ℕ → Examined
+examinedUnder image m levels top span p =
+    examinedOf (examine compareKeys (pagesOf image m) levels top (boundKey image (m .kind) (span .lo)) (boundKey image (m .kind) (span .hi)) p)
+
+abbrev pub examinedChildren : List ℕ → Map → ℕ → Span → Inner → Examined
+examinedChildren image m levels span b =
+    examinedOf (examineChildren (examine compareKeys (pagesOf image m) levels false)
+    (boundKey image (m .kind) (span .lo)) (boundKey image (m .kind) (span .hi))
+    (childrenIn (take (b .end) image) (m .kind) (b .n) (b .positions) (b .counts) (b .keys)))
+
+abbrev pub WholePage : List ℕ → Kind → Inner → Type 0
+WholePage image kind b = (t : ℕ) × InnerWhole (take (b .end) image) kind (b .n) (b .positions) (b .counts) (b .keys) t
 
 -- ## The children of an inner page
 -- "a child before its recorded count"

@@ -1,8 +1,10 @@
 -- The store of an image and its newest chunk, after document 01, "Where a chunk is" and "Asking".
 --
+--   metadataMap newest      the metadata as a map that is asked
 --   metadata image newest   what locating takes, for this image
 --   chunkAt image newest q n    where chunk n is, with q questions that may still be opened
 --   reader image newest map kind p    the page at p, due for a map of a kind: 8 questions may be opened
+--   pagesOf image m p       the same for a map that is asked
 --   metaValue image newest key   the spot of the metadata's value for a key, or none
 --   mapId image newest name      "`name.X` gives map X's id in hex"
 --   namedMap image newest name   the same, a name of more than 1,000 bytes refused with 1
@@ -23,8 +25,13 @@ use Rattle.locating.specs.Locating.{Metadata, located}
 use Rattle.opening.specs.declared.chunk.Chunk.{Chunk}
 use Rattle.page.specs.declared.Place.{Place}
 use Rattle.content.specs.Content.{Entry, pageIn}
+use Rattle.store.specs.declared.Map.{Map}
 use Rattle.metadata.specs.Answers.{placeOf, standingBy, placedAt, namedId, namedRoot}
 use Rattle.metadata.specs.Keys.{chunkKey, nameKey, rootKey}
+
+-- "Metadata is map 0, kind 1"
+abbrev pub metadataMap : Chunk → Map
+metadataMap newest = record { newest = newest; id = 0; kind = Text }
 
 -- ## Where a chunk is
 -- "The newest stands where opening found it. Chunk N otherwise is found by a metadata lookup of `chunk.` and N in hex";
@@ -49,6 +56,9 @@ chunkAt image newest q n = located (metadata image newest) q n
 unfoldable pub reader : List ℕ → Chunk → ℕ → Kind → ℕ → Outcome (Page Key Entry)
 reader image newest map kind p =
     branch (eqb p 0) (refuse outOfPlace) (bind (chunkAt image newest 8 (chunkOf p)) (λ c. pageIn image c p map kind))
+
+abbrev pub pagesOf : List ℕ → Map → ℕ → Outcome (Page Key Entry)
+pagesOf image m = reader image (m .newest) (m .id) (m .kind)
 
 -- ## A map's id and root
 unfoldable pub metaValue : List ℕ → Chunk → List ℕ → Outcome (Option Entry)

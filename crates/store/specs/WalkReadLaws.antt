@@ -19,6 +19,8 @@ use lib.Seq.{length-take-le, getD-take}
 use borrow.Author.Tests.{eqb-true, eqb-false, ltb-true, ltb-false, leb-true, leb-false, ne-eqb}
 use Rattle.refusal.specs.declared.Refusal.{Refusal}
 use Rattle.refusal.specs.Refusal.{ok, unsound, tooDeep}
+use Rattle.position.specs.declared.Position.{Position}
+use Rattle.position.specs.Position.{ofBits}
 use Rattle.key.specs.declared.Kind.{Kind}
 use Rattle.key.specs.Key.{Key}
 use Rattle.tree.specs.Page.{leaf, inner}
@@ -65,7 +67,7 @@ module _ (image : List ℕ) (newest : Chunk) (map : ℕ) (kind : Kind) where
       (0 < length pre + k → leftmostAt (reader image newest map kind) pre k p ≡ stop unsound)
   FirstBy p (after.Last q) =
       (pre : List ℕ) (k : ℕ) → length pre + k < 16
-      → leftmostAt (reader image newest map kind) pre k p ≡ leftmostAt (reader image newest map kind) pre (suc k) q
+      → leftmostAt (reader image newest map kind) pre k p ≡ leftmostAt (reader image newest map kind) pre (suc k) (q .bits)
   FirstBy p (after.Child q x) = ⊥
   FirstBy p (after.Refused r) =
       (pre : List ℕ) (k : ℕ) → length pre + k < 16 → leftmostAt (reader image newest map kind) pre k p ≡ stop r
@@ -101,11 +103,11 @@ module _ (image : List ℕ) (newest : Chunk) (map : ℕ) (kind : Kind) where
     NextBy after.Over = nextAt (reader image newest map kind) nums past l p ≡ past
     NextBy (after.Last q) =
         (suc l < length nums) ×
-        (nextAt (reader image newest map kind) nums past l p ≡ nextAt (reader image newest map kind) nums past (suc l) q)
+        (nextAt (reader image newest map kind) nums past l p ≡ nextAt (reader image newest map kind) nums past (suc l) (q .bits))
     NextBy (after.Child q x) =
         (suc l < length nums) ×
         (nextAt (reader image newest map kind) nums past l p
-        ≡ nextAt (reader image newest map kind) nums (leftmostAt (reader image newest map kind) (raised nums l) 0 x) (suc l) q)
+        ≡ nextAt (reader image newest map kind) nums (leftmostAt (reader image newest map kind) (raised nums l) 0 (x .bits)) (suc l) (q .bits))
         × (getD nums l 0 < 0x80000000)
     NextBy (after.Refused r) = nextAt (reader image newest map kind) nums past l p ≡ stop r
 
@@ -137,8 +139,8 @@ module _ (image : List ℕ) (newest : Chunk) (map : ℕ) (kind : Kind) where
       module _ (ps ns : List ℕ) (ks : List Key) (e : reader image newest map kind p ≡ ok (inner (childrenOf ps ns ks))) (n : ℕ)
           (few : n < 0x80000000) (whole : length ks ≡ n) (more : suc l < length nums) where
         inner-at : getD nums l 0 ≤ n → (b : Bool) → eqb (getD nums l 0) n ≡ b
-            → NextBy (cond b (after.Last (getD ps (getD nums l 0) 0))
-            (after.Child (getD ps (getD nums l 0) 0) (getD ps (getD nums l 0 + 1) 0)))
+            → NextBy (cond b (after.Last (ofBits (getD ps (getD nums l 0) 0)))
+            (after.Child (ofBits (getD ps (getD nums l 0) 0)) (ofBits (getD ps (getD nums l 0 + 1) 0))))
         inner-at low true h =
             let i = getD nums l 0 in
             let same : i ≡ n = eqb-true i n h in (
@@ -157,8 +159,8 @@ module _ (image : List ℕ) (newest : Chunk) (map : ℕ) (kind : Kind) where
             )
 
         inner-next : (b : Bool) → ltb n (getD nums l 0) ≡ b
-            → NextBy (cond b (after.Refused unsound) (cond (eqb (getD nums l 0) n) (after.Last (getD ps (getD nums l 0) 0))
-            (after.Child (getD ps (getD nums l 0) 0) (getD ps (getD nums l 0 + 1) 0))))
+            → NextBy (cond b (after.Refused unsound) (cond (eqb (getD nums l 0) n) (after.Last (ofBits (getD ps (getD nums l 0) 0)))
+            (after.Child (ofBits (getD ps (getD nums l 0) 0)) (ofBits (getD ps (getD nums l 0 + 1) 0)))))
         inner-next true h =
             let high : n < getD nums l 0 = ltb-true n (getD nums l 0) h in
             at-no-child (reader image newest map kind) nums past l p room (childrenOf ps ns ks) e more
@@ -195,16 +197,16 @@ module _ (image : List ℕ) (newest : Chunk) (map : ℕ) (kind : Kind) where
   unfoldable pub pastOf : List ℕ → ℕ → ℕ → Moved (Key × Entry)
   pastOf nums found x = cond (eqb found 0) over (leftmostAt (reader image newest map kind) (raised nums (found - 1)) 0 x)
 
-  past-came : (nums : List ℕ) (root found number x : ℕ) → found ≤ length nums
+  past-came : (nums : List ℕ) (root found number : ℕ) (x : Position) → found ≤ length nums
       → ((found ≡ 0 → ⊥) → number ≡ suc (getD nums (found - 1) 0))
-      → mapNext (reader image newest map kind) nums root ≡ pastOf nums found x
+      → mapNext (reader image newest map kind) nums root ≡ pastOf nums found (x .bits)
       → CameDown image newest map kind nums root (overOf found number x)
   unfolding pastOf overOf CameDown
   past-came nums root found number x few raise e = go (eqb found 0) refl e
     where
       go : (b : Bool) → eqb found 0 ≡ b
           → mapNext (reader image newest map kind) nums root
-          ≡ cond b over (leftmostAt (reader image newest map kind) (raised nums (found - 1)) 0 x)
+          ≡ cond b over (leftmostAt (reader image newest map kind) (raised nums (found - 1)) 0 (x .bits))
           → CameDown image newest map kind nums root (cond b down.Over (down.Left (found - 1) number x))
       go true h m = m
       go false h m =
@@ -212,18 +214,18 @@ module _ (image : List ℕ) (newest : Chunk) (map : ℕ) (kind : Kind) where
           (omega (arith, other), raise other, m)
 
   module _ (places : List ℕ) (depth root : ℕ) where
-    pub record Going (l p found number x : ℕ) : Type 0 where
+    pub record Going (l p found number : ℕ) (x : Position) : Type 0 where
       pub below : l < depth
       pub back : found ≤ l
       pub raise : (found ≡ 0 → ⊥) → number ≡ suc (getD (take depth places) (found - 1) 0)
-      pub same : nextAt (reader image newest map kind) (take depth places) (pastOf (take depth places) found x) l p
+      pub same : nextAt (reader image newest map kind) (take depth places) (pastOf (take depth places) found (x .bits)) l p
           ≡ mapNext (reader image newest map kind) (take depth places) root
 
     module _ (fits : depth ≤ length places) (most : depth ≤ 16) where
       sized : length (take depth places) ≡ depth
       sized = length-take-le depth places fits
 
-      pub going-root : 0 < depth → 0 < root → (number x : ℕ) → Going 0 root 0 number x
+      pub going-root : 0 < depth → 0 < root → (number : ℕ) (x : Position) → Going 0 root 0 number x
       unfolding pastOf
       going-root some-number filled number x = record {
         below = some-number;
@@ -232,18 +234,18 @@ module _ (image : List ℕ) (newest : Chunk) (map : ℕ) (kind : Kind) where
         same = sym (map-next (reader image newest map kind) (take depth places) root (omega (arith, sized)) filled);
       }
 
-      module _ {l p found number x : ℕ} (g : Going l p found number x) {j : Judged} (r : j ≡ judgedBy image newest map kind p)
+      module _ {l p found number : ℕ} {x : Position} (g : Going l p found number x) {j : Judged} (r : j ≡ judgedBy image newest map kind p)
           {a : After} (f : a ≡ afterOf image kind (getD places l 0) (eqb (l + 1) depth) j) where
         here : getD (take depth places) l 0 ≡ getD places l 0
         here = getD-take depth places l 0 (g .below)
 
-        turned : {b : After} → a ≡ b → NextBy (take depth places) (pastOf (take depth places) found x) l p b
+        turned : {b : After} → a ≡ b → NextBy (take depth places) (pastOf (take depth places) found (x .bits)) l p b
         turned {b} came =
             let low : l < depth = g .below in
             let nums = take depth places in
             let e : afterOf image kind (getD nums l 0) (eqb (l + 1) (length nums)) (judgedBy image newest map kind p) ≡ b =
             rw (here, sized, ← r, ← f) came in
-            rw e at (next-by (take depth places) (pastOf (take depth places) found x) l p (omega arith) (omega (arith, sized)))
+            rw e at (next-by (take depth places) (pastOf (take depth places) found (x .bits)) l p (omega arith) (omega (arith, sized)))
 
         pub going-refused : {y : Refusal} → a ≡ after.Refused y → CameDown image newest map kind (take depth places) root (down.Refused y)
         unfolding CameDown
@@ -261,7 +263,7 @@ module _ (image : List ℕ) (newest : Chunk) (map : ℕ) (kind : Kind) where
         pub entry-few : {key size at len : ℕ} → a ≡ after.Entry key size at len → getD places l 0 < 0x80000000
         entry-few came = omega (arith, turned came .4, here)
 
-        pub child-few : {q y : ℕ} → a ≡ after.Child q y → getD places l 0 < 0x80000000
+        pub child-few : {q y : Position} → a ≡ after.Child q y → getD places l 0 < 0x80000000
         child-few came = omega (arith, turned came .2, here)
 
         pub going-over : a ≡ after.Over → {d : Down} → d ≡ overOf found number x → CameDown image newest map kind (take depth places) root d
@@ -269,7 +271,7 @@ module _ (image : List ℕ) (newest : Chunk) (map : ℕ) (kind : Kind) where
             rw e (past-came (take depth places) root found number x (omega (arith, sized, g .below, g .back)) (g .raise)
             (sym (g .same) ∙ turned came))
 
-        pub going-last : {q : ℕ} → a ≡ after.Last q → Going (l + 1) q found number x
+        pub going-last : {q : Position} → a ≡ after.Last q → Going (l + 1) (q .bits) found number x
         going-last {q} came =
             let t = turned came in
             record {
@@ -279,7 +281,7 @@ module _ (image : List ℕ) (newest : Chunk) (map : ℕ) (kind : Kind) where
               same = rw (add-one l) (sym (t .1) ∙ g .same);
             }
 
-        pub going-child : {q y : ℕ} → a ≡ after.Child q y → Going (l + 1) q (l + 1) (getD places l 0 + 1) y
+        pub going-child : {q y : Position} → a ≡ after.Child q y → Going (l + 1) (q .bits) (l + 1) (getD places l 0 + 1) y
         unfolding pastOf
         going-child {q} {y} came =
             let t = turned came in
@@ -338,7 +340,7 @@ module _ (image : List ℕ) (newest : Chunk) (map : ℕ) (kind : Kind) where
       lefting-empty came other i = λ pre e.
           g .same pre e ∙ firsted came pre (depth - level) (omega (arith, g .low)) .1 (omega (arith, g .low, other)) ∙ ap stop (sym i)
 
-      pub lefting-last : {z : ℕ} → a ≡ after.Last z → Lefting level p (depth + 1) z
+      pub lefting-last : {z : Position} → a ≡ after.Last z → Lefting level p (depth + 1) (z .bits)
       lefting-last {z} came =
           let t = firsted came in
           record {
@@ -350,5 +352,5 @@ module _ (image : List ℕ) (newest : Chunk) (map : ℕ) (kind : Kind) where
           }
 
       -- the first child has no other noted with it
-      pub lefting-child : {z x : ℕ} → a ≡ after.Child z x → ⊥
+      pub lefting-child : {z x : Position} → a ≡ after.Child z x → ⊥
       lefting-child came = firsted came

@@ -9,6 +9,7 @@ use lib.ListN.{length, take, replicate}
 use lib.Seq.{length-take-le, take-take}
 use Rattle.refusal.specs.declared.Refusal.{Refusal}
 use Rattle.refusal.specs.Refusal.{unsound}
+use Rattle.position.specs.declared.Position.{Position}
 use Rattle.key.specs.declared.Kind.{Kind}
 use Rattle.key.specs.Key.{Key}
 use Rattle.tree.specs.Walk.{Moved, over, stop, mapNext}
@@ -104,8 +105,8 @@ module _ (image : List ℕ) (newest : Chunk) (map : ℕ) (kind : Kind) (root : �
           (leading-placed w l n 0 (w .depth) (omega (arith, long, c .2)) (omega (arith, long, c .2)) most) in
           (λ j. record { walk = (e ∙ sym there) j; got = sym (c .1) j }) ∙ sym (settled-prefixed w (take l nums) (c .0) n) ∙ step-by (c .4)
 
-      step-on-at : (l n p : ℕ) → CameDown image newest map kind (take (w .depth) (w .places)) root (down.Left l n p) → (m : Leftmost)
-          → CameLeft image newest map kind (l + 1) p m → {x : Stepped} → x ≡ leftStep w l n m
+      step-on-at : (l n : ℕ) (p : Position) → CameDown image newest map kind (take (w .depth) (w .places)) root (down.Left l n p) → (m : Leftmost)
+          → CameLeft image newest map kind (l + 1) (p .bits) m → {x : Stepped} → x ≡ leftStep w l n m
           → x ≡ settled w (movedBy (reader image newest map kind) root (numbers w))
       unfolding CameDown
       step-on-at l n p c m left e =
@@ -114,7 +115,7 @@ module _ (image : List ℕ) (newest : Chunk) (map : ℕ) (kind : Kind) (root : �
           let low : l < w .depth = omega (arith, len, c .0) in
           let long : length (raised nums l) ≡ l + 1 = length-raised nums l (c .0) ∙ sym (add-one l) in
           let head : raised nums l ≡ take l (w .places) ++ (n ∷ []) = rw (c .1, take-take l (w .depth) (w .places) (omega arith)) in
-          e ∙ step-left l n p (raised nums l) m (c .2) (rw long left)
+          e ∙ step-left l n (p .bits) (raised nums l) m (c .2) (rw long left)
           (λ k depth s most. ap leading (zeros-more (raised nums l) k ∙ ap (_++ replicate (suc k) 0) head)
           ∙ leading-placed w l n (suc k) depth (omega arith) (omega (arith, s, long)) most)
 
@@ -124,7 +125,7 @@ module _ (image : List ℕ) (newest : Chunk) (map : ℕ) (kind : Kind) (root : �
             → record { walk = x; got = yields.Entry key size at len } ≡ settled w (movedBy (reader image newest map kind) root (numbers w))
         step-entry {l} {n} {key} {size} {at} {len} i most e = step-entry-at l n key size at len (rw i at c) most e
 
-        pub step-on : {l n p : ℕ} → d ≡ down.Left l n p → (m : Leftmost) → CameLeft image newest map kind (l + 1) p m
+        pub step-on : {l n : ℕ} {p : Position} → d ≡ down.Left l n p → (m : Leftmost) → CameLeft image newest map kind (l + 1) (p .bits) m
             → {x : Stepped} → x ≡ leftStep w l n m
             → x ≡ settled w (movedBy (reader image newest map kind) root (numbers w))
         step-on {l} {n} {p} i m left e = step-on-at l n p (rw i at c) m left e
@@ -141,7 +142,7 @@ module _ (image : List ℕ) (newest : Chunk) (map : ℕ) (kind : Kind) (root : �
         step-refused {r} i e = step-stop {r = r} (rw i at c) e
 
         -- the level is one of the numbers'
-        pub left-low : {l n p : ℕ} → d ≡ down.Left l n p → l < w .depth
+        pub left-low : {l n : ℕ} {p : Position} → d ≡ down.Left l n p → l < w .depth
         unfolding CameDown
         left-low {l} {n} {p} i =
             let t : CameDown image newest map kind (take (w .depth) (w .places)) root (down.Left l n p) = rw i at c in
@@ -154,7 +155,7 @@ module _ (image : List ℕ) (newest : Chunk) (map : ℕ) (kind : Kind) (w : Walk
   unfolding stepIn settled
   step-no-root i f = f ∙ rw (← e, i)
 
-  pub step-from : {p : ℕ} → o ≡ root.At p → {x : Stepped} → x ≡ settled w (movedBy (reader image newest map kind) p (numbers w))
+  pub step-from : {p : Position} → o ≡ root.At p → {x : Stepped} → x ≡ settled w (movedBy (reader image newest map kind) (p .bits) (numbers w))
       → x ≡ stepIn image newest map kind w
   unfolding stepIn
   step-from i f = f ∙ rw (← e, i)

@@ -36,6 +36,6 @@ module _ (image : List ℕ) (newest : Chunk) (map : ℕ) (kind : Kind) where
       (mapNext (reader image newest map kind) nums root ≡ prefixed (take level nums) e number [])
   CameDown nums root (down.Left level number position) =
       (level < length nums) × (number ≡ suc (getD nums level 0)) ×
-      (mapNext (reader image newest map kind) nums root ≡ leftmostAt (reader image newest map kind) (raised nums level) 0 position)
+      (mapNext (reader image newest map kind) nums root ≡ leftmostAt (reader image newest map kind) (raised nums level) 0 (position .bits))
   CameDown nums root down.Over = mapNext (reader image newest map kind) nums root ≡ over
   CameDown nums root (down.Refused r) = mapNext (reader image newest map kind) nums root ≡ stop r

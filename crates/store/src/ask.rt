@@ -1,6 +1,7 @@
 // Lookup, index and count of a map, by its id and kind, in a store that is open.
 use super::Counted;
 use super::Fetched;
+use super::Map;
 use super::QUESTIONS;
 use super::fetch::fetch_from;
 use super::locate::descend;
@@ -13,29 +14,24 @@ use metadata::Value;
 use metadata::value_by;
 use opening::Chunk;
 use page::Judged;
+use position::Position;
 ghost use mathlib.Core.Path.{_≡_};
 ghost use Rattle.key.specs.Key.{keyOf};
 ghost use Rattle.tree.specs.Asking.{mapCount};
-ghost use Rattle.store.specs.Store.{reader};
+ghost use Rattle.store.specs.Store.{pagesOf};
 ghost use Rattle.store.specs.Memory.{RightWords};
 ghost use Rattle.store.specs.Asking.{lookupIn, indexIn, countIn, valueOf, fetchedOf, countedOf};
 
-fn lookup_with(
-    image: &[u8],
-    newest: Chunk,
-    memory: &mut [u64],
-    map: u32,
-    kind: Kind,
-    key: &[u8],
-) -> Value
-    requires { ⌜ RightWords (now image) newest (now memory) ⌝ }
-    ensures { λ r. ⌜ r ≡ valueOf (lookupIn (now (image .entry)) newest map kind (keyOf kind (now (key .entry)))) ⌝ }
+fn lookup_with(image: &[u8], memory: &mut [u64], m: Map, key: &[u8]) -> Value
+    requires { ⌜ RightWords (now image) (m .newest) (now memory) ⌝ }
+    ensures { λ r. ⌜ r ≡ valueOf (lookupIn (now (image .entry)) (m .newest) (m .id) (m .kind) (keyOf (m .kind) (now (key .entry)))) ⌝ }
 {
-    let r = root_at(image, newest, memory, map);
+    let newest = m.newest;
+    let r = root_at(image, newest, memory, m.id);
     match r {
         Root::Refused(r) => Value::Refused(r),
         Root::At(p) => {
-            let f = descend(image, newest, memory, p, map, kind, key, QUESTIONS);
+            let f = descend(image, memory, m, p, key, QUESTIONS);
             value_by(f)
         }
     }
@@ -46,24 +42,23 @@ pub fn lookup(image: &[u8], newest: Chunk, map: u32, kind: Kind, key: &[u8]) -> 
     ensures { λ r. ⌜ r ≡ valueOf (lookupIn (now (image .entry)) newest map kind (keyOf kind (now (key .entry)))) ⌝ }
 {
     let mut memory = few_words();
-    lookup_with(image, newest, &mut memory, map, kind, key)
+    let m = Map {
+        newest,
+        id: map,
+        kind,
+    };
+    lookup_with(image, &mut memory, m, key)
 }
 
-fn index_with(
-    image: &[u8],
-    newest: Chunk,
-    memory: &mut [u64],
-    map: u32,
-    kind: Kind,
-    index: u64,
-) -> Fetched
-    requires { ⌜ RightWords (now image) newest (now memory) ⌝ }
-    ensures { λ r. ⌜ r ≡ fetchedOf (indexIn (now (image .entry)) newest map kind index) ⌝ }
+fn index_with(image: &[u8], memory: &mut [u64], m: Map, index: u64) -> Fetched
+    requires { ⌜ RightWords (now image) (m .newest) (now memory) ⌝ }
+    ensures { λ r. ⌜ r ≡ fetchedOf (indexIn (now (image .entry)) (m .newest) (m .id) (m .kind) index) ⌝ }
 {
-    let r = root_at(image, newest, memory, map);
+    let newest = m.newest;
+    let r = root_at(image, newest, memory, m.id);
     match r {
         Root::Refused(r) => Fetched::Refused(r),
-        Root::At(p) => fetch_from(image, newest, memory, p, map, kind, index),
+        Root::At(p) => fetch_from(image, memory, m, p, index),
     }
 }
 
@@ -72,25 +67,23 @@ pub fn index(image: &[u8], newest: Chunk, map: u32, kind: Kind, index: u64) -> F
     ensures { λ r. ⌜ r ≡ fetchedOf (indexIn (now (image .entry)) newest map kind index) ⌝ }
 {
     let mut memory = few_words();
-    index_with(image, newest, &mut memory, map, kind, index)
+    let m = Map {
+        newest,
+        id: map,
+        kind,
+    };
+    index_with(image, &mut memory, m, index)
 }
 
 // How many entries the page at the root has or records.
-fn count_from(
-    image: &[u8],
-    newest: Chunk,
-    memory: &mut [u64],
-    root: u64,
-    map: u32,
-    kind: Kind,
-) -> Counted
-    requires { ⌜ RightWords (now image) newest (now memory) ⌝ }
-    ensures { λ r. ⌜ r ≡ countedOf (mapCount (reader (now (image .entry)) newest map kind) root) ⌝ }
+fn count_from(image: &[u8], memory: &mut [u64], m: Map, root: Position) -> Counted
+    requires { ⌜ RightWords (now image) (m .newest) (now memory) ⌝ }
+    ensures { λ r. ⌜ r ≡ countedOf (mapCount (pagesOf (now (image .entry)) m) (root .bits)) ⌝ }
 {
-    if root == 0 {
+    if root.is_empty() {
         return Counted::Is(0);
     }
-    let j = read_page(image, newest, memory, root, map, kind);
+    let j = read_page(image, memory, m, root);
     match j {
         Judged::Refused(r) => Counted::Refused(r),
         Judged::Leaf {
@@ -110,14 +103,15 @@ fn count_from(
     }
 }
 
-fn count_with(image: &[u8], newest: Chunk, memory: &mut [u64], map: u32, kind: Kind) -> Counted
-    requires { ⌜ RightWords (now image) newest (now memory) ⌝ }
-    ensures { λ r. ⌜ r ≡ countedOf (countIn (now (image .entry)) newest map kind) ⌝ }
+fn count_with(image: &[u8], memory: &mut [u64], m: Map) -> Counted
+    requires { ⌜ RightWords (now image) (m .newest) (now memory) ⌝ }
+    ensures { λ r. ⌜ r ≡ countedOf (countIn (now (image .entry)) (m .newest) (m .id) (m .kind)) ⌝ }
 {
-    let r = root_at(image, newest, memory, map);
+    let newest = m.newest;
+    let r = root_at(image, newest, memory, m.id);
     match r {
         Root::Refused(r) => Counted::Refused(r),
-        Root::At(p) => count_from(image, newest, memory, p, map, kind),
+        Root::At(p) => count_from(image, memory, m, p),
     }
 }
 
@@ -126,5 +120,10 @@ pub fn count(image: &[u8], newest: Chunk, map: u32, kind: Kind) -> Counted
     ensures { λ r. ⌜ r ≡ countedOf (countIn (now (image .entry)) newest map kind) ⌝ }
 {
     let mut memory = few_words();
-    count_with(image, newest, &mut memory, map, kind)
+    let m = Map {
+        newest,
+        id: map,
+        kind,
+    };
+    count_with(image, &mut memory, m)
 }

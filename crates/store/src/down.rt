@@ -1,47 +1,40 @@
 // The walk's two ways down: by the numbers of its state, and to the left.
+use super::Map;
 use super::read::read_page;
 use cursor::After;
 use cursor::Down;
 use cursor::Leftmost;
+use cursor::Walk;
 use cursor::after_at;
 use cursor::first_at;
 use cursor::over_at;
-use key::Kind;
-use opening::Chunk;
+use position::Position;
 use refusal::Refusal;
 ghost use Prim.Native.Nat.{_≤_};
-ghost use lib.ListN.{take};
+ghost use lib.ListN.{length, take};
 ghost use Rattle.store.specs.Memory.{RightWords};
 ghost use Rattle.store.specs.WalkWays.{CameDown, CameLeft};
 
-// The way down from the root by the first `depth` places: the entry after the one that they lead to,
+// The way down from the root by the state's numbers: the entry after the one that they lead to,
 // or the child under which it is the leftmost.
-pub(crate) fn down_by(
-    image: &[u8],
-    newest: Chunk,
-    memory: &mut [u64],
-    root: u64,
-    map: u32,
-    kind: Kind,
-    places: [u32; 16],
-    depth: u32,
-) -> Down
-    requires { ⌜ (1 ≤ depth) × (depth ≤ 16) × (1 ≤ root) × RightWords (now image) newest (now memory) ⌝ }
-    ensures { λ r. ⌜ RightWords (now (image .entry)) newest (now (memory .exit)) × CameDown (now (image .entry)) newest map kind (take depth places) root r ⌝ }
+pub(crate) fn down_by(image: &[u8], memory: &mut [u64], m: Map, root: Position, w: Walk) -> Down
+    requires { ⌜ (1 ≤ w .depth) × (w .depth ≤ 16) × (w .depth ≤ length (w .places)) × (1 ≤ root .bits) × RightWords (now image) (m .newest) (now memory) ⌝ }
+    ensures { λ r. ⌜ RightWords (now (image .entry)) (m .newest) (now (memory .exit)) × CameDown (now (image .entry)) (m .newest) (m .id) (m .kind) (take (w .depth) (w .places)) (root .bits) r ⌝ }
 {
+    let kind = m.kind;
+    let places = w.places;
+    let depth = w.depth;
     let mut p = root;
     let mut level: u32 = 0;
     let mut found: u32 = 0;
     let mut number: u32 = 0;
-    let mut next: u64 = 0;
+    let mut next = root;
     while level < depth {
         let i = places[level as usize];
-        let j = read_page(image, newest, memory, p, map, kind);
+        let j = read_page(image, memory, m, p);
         let a = after_at(image, kind, j, i, level + 1 == depth);
         match a {
-            After::Refused(r) => {
-                return Down::Refused(r);
-            }
+            After::Refused(r) => return Down::Refused(r),
             After::Entry { key, size, at, len } => {
                 return Down::Entry {
                     level,
@@ -52,12 +45,8 @@ pub(crate) fn down_by(
                     len,
                 };
             }
-            After::Over => {
-                return over_at(found, number, next);
-            }
-            After::Last(position) => {
-                p = position;
-            }
+            After::Over => return over_at(found, number, next),
+            After::Last(position) => p = position,
             After::Child { position, after } => {
                 p = position;
                 found = level + 1;
@@ -74,25 +63,22 @@ pub(crate) fn down_by(
 // empty leaf.
 pub(crate) fn leftmost_from(
     image: &[u8],
-    newest: Chunk,
     memory: &mut [u64],
-    p: u64,
-    map: u32,
-    kind: Kind,
+    m: Map,
+    p: Position,
     level: u32,
 ) -> Leftmost
-    requires { ⌜ (level ≤ 16) × RightWords (now image) newest (now memory) ⌝ }
-    ensures { λ r. ⌜ RightWords (now (image .entry)) newest (now (memory .exit)) × CameLeft (now (image .entry)) newest map kind level p r ⌝ }
+    requires { ⌜ (level ≤ 16) × RightWords (now image) (m .newest) (now memory) ⌝ }
+    ensures { λ r. ⌜ RightWords (now (image .entry)) (m .newest) (now (memory .exit)) × CameLeft (now (image .entry)) (m .newest) (m .id) (m .kind) level (p .bits) r ⌝ }
 {
+    let kind = m.kind;
     let mut q = p;
     let mut depth = level;
     while depth < 16 {
-        let j = read_page(image, newest, memory, q, map, kind);
+        let j = read_page(image, memory, m, q);
         let a = first_at(image, kind, j);
         match a {
-            After::Refused(r) => {
-                return Leftmost::Refused(r);
-            }
+            After::Refused(r) => return Leftmost::Refused(r),
             After::Entry { key, size, at, len } => {
                 return Leftmost::Entry {
                     depth: depth + 1,
@@ -108,12 +94,8 @@ pub(crate) fn leftmost_from(
                 }
                 return Leftmost::Refused(Refusal::new(Refusal::UNSOUND));
             }
-            After::Last(position) => {
-                q = position;
-            }
-            After::Child { position, after: _ } => {
-                q = position;
-            }
+            After::Last(position) => q = position,
+            After::Child { position, after: _ } => q = position,
         }
         depth += 1;
     }

@@ -1,5 +1,6 @@
 // The examination of a map: depth first, a page's own rules before its keys, its separators before its
 // children, a child before its recorded count.
+use super::Map;
 use super::read::read_page;
 use super::read::root_at;
 use super::room::few_words;
@@ -8,6 +9,7 @@ use key::Kind;
 use metadata::Root;
 use opening::Chunk;
 use page::Judged;
+use position::Position;
 use refusal::Refusal;
 use rising::Bound;
 use rising::separators_lie;
@@ -17,18 +19,11 @@ use soundness::Report;
 use soundness::Span;
 use soundness::child_at;
 use soundness::leaf_of;
-ghost use Prim.Native.Nat.{ℕ, _≤_, _<_};
+ghost use Prim.Native.Nat.{_≤_, _<_};
 ghost use mathlib.Core.Path.{_≡_};
-ghost use mathlib.Core.Bool.{false};
-ghost use lib.ListN.{take};
-ghost use Rattle.key.specs.Key.{compareKeys};
-ghost use Rattle.tree.specs.Examination.{examine, examineChildren};
-ghost use Rattle.content.specs.WholeLaws.{InnerWhole, childrenIn};
-ghost use Rattle.rising.specs.Rising.{boundKey};
 ghost use Rattle.soundness.specs.Examining.{examinedOf};
-ghost use Rattle.store.specs.Store.{reader};
 ghost use Rattle.store.specs.Memory.{RightWords};
-ghost use Rattle.store.specs.Examining.{tallied, overChildren, examineIn, Fits};
+ghost use Rattle.store.specs.Examining.{tallied, overChildren, examineIn, examinedUnder, examinedChildren, WholePage, Fits};
 
 // The children examined so far, and one more.
 fn tally(r: Report, count: u64, x: Examined) -> Examined
@@ -68,22 +63,21 @@ fn over_children(x: Examined) -> Examined
 // The page at `p` and what is under it, with `levels` levels of pages left, the page's own counted.
 fn examine_page(
     image: &[u8],
-    newest: Chunk,
     memory: &mut [u64],
-    p: u64,
-    map: u32,
-    kind: Kind,
+    m: Map,
+    p: Position,
     span: Span,
     top: bool,
     levels: u32,
 ) -> Examined
-    requires { ⌜ (levels ≤ 16) × RightWords (now image) newest (now memory) ⌝ }
-    ensures { λ r. ⌜ RightWords (now (image .entry)) newest (now (memory .exit)) × (r ≡ examinedOf (examine compareKeys (reader (now (image .entry)) newest map kind) levels top (boundKey (now (image .entry)) kind (span .lo)) (boundKey (now (image .entry)) kind (span .hi)) p)) ⌝ }
+    requires { ⌜ (levels ≤ 16) × RightWords (now image) (m .newest) (now memory) ⌝ }
+    ensures { λ r. ⌜ RightWords (now (image .entry)) (m .newest) (now (memory .exit)) × (r ≡ examinedUnder (now (image .entry)) m levels top span (p .bits)) ⌝ }
 {
     if levels == 0 {
         return Examined::Refused(Refusal::new(Refusal::TOO_DEEP));
     }
-    let j = read_page(image, newest, memory, p, map, kind);
+    let j = read_page(image, memory, m, p);
+    let kind = m.kind;
     match j {
         Judged::Refused(r) => Examined::Refused(r),
         Judged::Leaf {
@@ -112,7 +106,7 @@ fn examine_page(
                 keys,
                 end,
             };
-            let x = examine_children(image, newest, memory, map, kind, page, span, levels - 1);
+            let x = examine_children(image, memory, m, page, span, levels - 1);
             over_children(x)
         }
     }
@@ -121,17 +115,16 @@ fn examine_page(
 // The children of an inner page, child 0 first.
 fn examine_children(
     image: &[u8],
-    newest: Chunk,
     memory: &mut [u64],
-    map: u32,
-    kind: Kind,
+    m: Map,
     page: Inner,
     span: Span,
     levels: u32,
 ) -> Examined
-    requires { ⌜ (levels < 16) × RightWords (now image) newest (now memory) × ((t : ℕ) × InnerWhole (take (page .end) (now image)) kind (page .n) (page .positions) (page .counts) (page .keys) t) ⌝ }
-    ensures { λ r. ⌜ RightWords (now (image .entry)) newest (now (memory .exit)) × (r ≡ examinedOf (examineChildren (examine compareKeys (reader (now (image .entry)) newest map kind) levels false) (boundKey (now (image .entry)) kind (span .lo)) (boundKey (now (image .entry)) kind (span .hi)) (childrenIn (take (page .end) (now (image .entry))) kind (page .n) (page .positions) (page .counts) (page .keys)))) ⌝ }
+    requires { ⌜ (levels < 16) × RightWords (now image) (m .newest) (now memory) × WholePage (now image) (m .kind) page ⌝ }
+    ensures { λ r. ⌜ RightWords (now (image .entry)) (m .newest) (now (memory .exit)) × (r ≡ examinedChildren (now (image .entry)) m levels span page) ⌝ }
 {
+    let kind = m.kind;
     let mut r = Report {
         entries: 0,
         pages: 0,
@@ -146,17 +139,8 @@ fn examine_children(
         let c = child_at(image, kind, page, j, counts, keys, hi);
         let right = c.hi;
         let under = Span { lo, hi: right };
-        let x = examine_page(
-            image,
-            newest,
-            memory,
-            c.position,
-            map,
-            kind,
-            under,
-            false,
-            levels,
-        );
+        let at = c.position;
+        let x = examine_page(image, memory, m, at, under, false, levels);
         let t = tally(r, c.count, x);
         let Examined::Passed(sum) = t else {
             return t;
@@ -172,15 +156,16 @@ fn examine_children(
     }
 }
 
-fn examine_with(image: &[u8], newest: Chunk, memory: &mut [u64], map: u32, kind: Kind) -> Examined
-    requires { ⌜ RightWords (now image) newest (now memory) ⌝ }
-    ensures { λ r. ⌜ r ≡ examinedOf (examineIn (now (image .entry)) newest map kind) ⌝ }
+fn examine_with(image: &[u8], memory: &mut [u64], m: Map) -> Examined
+    requires { ⌜ RightWords (now image) (m .newest) (now memory) ⌝ }
+    ensures { λ r. ⌜ r ≡ examinedOf (examineIn (now (image .entry)) (m .newest) (m .id) (m .kind)) ⌝ }
 {
-    let r = root_at(image, newest, memory, map);
+    let newest = m.newest;
+    let r = root_at(image, newest, memory, m.id);
     match r {
         Root::Refused(r) => Examined::Refused(r),
         Root::At(p) => {
-            if p == 0 {
+            if p.is_empty() {
                 return Examined::Passed(Report {
                     entries: 0,
                     pages: 0,
@@ -191,7 +176,7 @@ fn examine_with(image: &[u8], newest: Chunk, memory: &mut [u64], map: u32, kind:
                 lo: Bound::Open,
                 hi: Bound::Open,
             };
-            examine_page(image, newest, memory, p, map, kind, span, true, 16)
+            examine_page(image, memory, m, p, span, true, 16)
         }
     }
 }
@@ -203,10 +188,15 @@ const SMALL: usize = 1048576;
 pub fn examine(image: &[u8], newest: Chunk, map: u32, kind: Kind) -> Examined
     ensures { λ r. ⌜ r ≡ examinedOf (examineIn (now (image .entry)) newest map kind) ⌝ }
 {
+    let m = Map {
+        newest,
+        id: map,
+        kind,
+    };
     if image.len() < SMALL {
         let mut memory = few_words();
-        return examine_with(image, newest, &mut memory, map, kind);
+        return examine_with(image, &mut memory, m);
     }
     let mut memory = many_words();
-    examine_with(image, newest, &mut memory, map, kind)
+    examine_with(image, &mut memory, m)
 }

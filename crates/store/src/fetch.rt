@@ -1,21 +1,22 @@
 // An entry by its index: at each inner page the recorded counts say which child it is under.
 use super::Fetched;
+use super::Map;
 use super::read::read_page;
 use content::Nth;
 use content::Picked;
 use key::Kind;
-use opening::Chunk;
 use page::Judged;
+use position::Position;
 use refusal::Refusal;
 ghost use mathlib.Core.Path.{_≡_};
 ghost use Rattle.tree.specs.Asking.{mapIndex};
-ghost use Rattle.store.specs.Store.{reader};
+ghost use Rattle.store.specs.Store.{pagesOf};
 ghost use Rattle.store.specs.Memory.{RightWords};
 ghost use Rattle.store.specs.Asking.{turnOf, fetchedOf};
 
 // One page: the child to go on at with what is left of the index, or the answer.
 pub enum Turn {
-    Child { position: u64, rest: u64 },
+    Child { position: Position, rest: u64 },
     Done(Fetched),
 }
 
@@ -60,24 +61,23 @@ fn turn_at(image: &[u8], kind: Kind, j: Judged, index: u64) -> Turn
 // The entry numbered `index` of the map whose root is given: one page a turn, at most 16.
 pub(crate) fn fetch_from(
     image: &[u8],
-    newest: Chunk,
     memory: &mut [u64],
-    root: u64,
-    map: u32,
-    kind: Kind,
+    m: Map,
+    root: Position,
     index: u64,
 ) -> Fetched
-    requires { ⌜ RightWords (now image) newest (now memory) ⌝ }
-    ensures { λ r. ⌜ r ≡ fetchedOf (mapIndex (reader (now (image .entry)) newest map kind) index root) ⌝ }
+    requires { ⌜ RightWords (now image) (m .newest) (now memory) ⌝ }
+    ensures { λ r. ⌜ r ≡ fetchedOf (mapIndex (pagesOf (now (image .entry)) m) index (root .bits)) ⌝ }
 {
-    if root == 0 {
+    if root.is_empty() {
         return Fetched::Refused(Refusal::new(Refusal::INDEX));
     }
+    let kind = m.kind;
     let mut p = root;
     let mut rest = index;
     let mut left: u32 = 16;
     while 0 < left {
-        let j = read_page(image, newest, memory, p, map, kind);
+        let j = read_page(image, memory, m, p);
         let t = turn_at(image, kind, j, rest);
         match t {
             Turn::Child { position, rest: r } => {

@@ -26,14 +26,36 @@ use metadata::id_by;
 use metadata::located_by;
 use metadata::name_key;
 use opening::Chunk;
+use position::Position;
 use read::root_at;
 use refusal::Refusal;
 use room::few_words;
 pub use walking::advance;
 ghost use mathlib.Core.Path.{_≡_};
 ghost use Rattle.metadata.specs.Answers.{placeSaid, idSaid, rootSaid};
-ghost use Rattle.store.specs.Store.{chunkAt, namedMap, mapRoot};
+ghost use Rattle.store.specs.Store.{metadataMap, chunkAt, namedMap, mapRoot};
 ghost use Rattle.store.specs.Memory.{RightWords};
+
+// A map that is asked: by the newest chunk of its store, its id and its kind.
+pub struct Map {
+    pub newest: Chunk,
+    pub id: u32,
+    pub kind: Kind,
+}
+
+impl Map {
+    // "Metadata is map 0, kind 1".
+    pub(crate) fn metadata(newest: Chunk) -> Map
+        ensures { λ r. ⌜ r ≡ metadataMap newest ⌝ }
+    {
+        Map {
+            newest,
+            id: 0,
+            kind: Kind::Text,
+        }
+    }
+}
+
 // An entry: its key and its value by place and length.
 pub enum Fetched {
     At {
@@ -71,16 +93,9 @@ fn named_with(image: &[u8], newest: Chunk, memory: &mut [u64], name: &[u8]) -> I
     let key = name_key(name);
     let bytes = key.bytes;
     let n = key.len;
-    let f = descend(
-        image,
-        newest,
-        memory,
-        newest.root,
-        0,
-        Kind::Text,
-        &bytes[..n],
-        QUESTIONS,
-    );
+    let m = Map::metadata(newest);
+    let root = Position { bits: newest.root };
+    let f = descend(image, memory, m, root, &bytes[..n], QUESTIONS);
     id_by(image, f)
 }
 

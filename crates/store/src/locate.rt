@@ -1,9 +1,9 @@
 // Locating a chunk and a descent, which ask each other. What was located is remembered in an array
 // that the caller lends; `q` is how many questions may still be opened.
+use super::Map;
 use super::room::is_crowded;
 use super::room::many_words;
 use super::settle::settle;
-use key::Kind;
 use memory::Recalled;
 use metadata::Advance;
 use metadata::Looked;
@@ -47,16 +47,9 @@ pub(crate) fn locate(image: &[u8], newest: Chunk, memory: &mut [u64], c: u32, q:
     let key = chunk_key(c);
     let bytes = key.bytes;
     let n = key.len;
-    let f = descend(
-        image,
-        newest,
-        memory,
-        newest.root,
-        0,
-        Kind::Text,
-        &bytes[..n],
-        q - 1,
-    );
+    let m = Map::metadata(newest);
+    let root = Position { bits: newest.root };
+    let f = descend(image, memory, m, root, &bytes[..n], q - 1);
     settle(image, memory, c, f)
 }
 
@@ -72,29 +65,29 @@ fn locate_anew(image: &[u8], newest: Chunk, c: u32, q: u32) -> Told
 // A lookup of `key` in the map whose root is given: one page a turn, at most 16.
 pub(crate) fn descend(
     image: &[u8],
-    newest: Chunk,
     memory: &mut [u64],
-    root: u64,
-    map: u32,
-    kind: Kind,
+    m: Map,
+    root: Position,
     key: &[u8],
     q: u32,
 ) -> Looked
-    requires { ⌜ (q ≤ 8) × RightWords (now image) newest (now memory) ⌝ }
-    ensures { λ r. ⌜ RightWords (now (image .entry)) newest (now (memory .exit)) × Sought (now (image .entry)) newest map kind root (keyOf kind (now (key .entry))) q r ⌝ }
+    requires { ⌜ (q ≤ 8) × RightWords (now image) (m .newest) (now memory) ⌝ }
+    ensures { λ r. ⌜ RightWords (now (image .entry)) (m .newest) (now (memory .exit)) × Sought (now (image .entry)) (m .newest) (m .id) (m .kind) (root .bits) (keyOf (m .kind) (now (key .entry))) q r ⌝ }
 {
-    if root == 0 {
+    if root.is_empty() {
         return Looked::Absent { need: 0 };
     }
+    let newest = m.newest;
+    let kind = m.kind;
     let mut p = root;
     let mut need: u32 = 0;
     let mut left: u32 = 16;
     while 0 < left {
-        if p == 0 {
+        if p.is_empty() {
             return Looked::Refused(Refusal::new(Refusal::PLACE));
         }
-        let l = locate(image, newest, memory, Position { bits: p }.chunk(), q);
-        let a = advance_at(image, l, need, p, map, kind, key);
+        let l = locate(image, newest, memory, p.chunk(), q);
+        let a = advance_at(image, l, need, p, m.id, kind, key);
         match a {
             Advance::To { position, need: n } => {
                 p = position;

@@ -1,8 +1,8 @@
 // A page of a map by its position, and a map's root, with what the call remembers.
+use super::Map;
 use super::QUESTIONS;
 use super::locate::descend;
 use super::locate::locate;
-use key::Kind;
 use metadata::Root;
 use metadata::Told;
 use metadata::root_by;
@@ -19,24 +19,18 @@ ghost use Rattle.store.specs.Asking.{judgedBy};
 
 // The page at `p`, due for a map of a kind, as it is judged: child position 0, then location, then
 // the page's own rules.
-pub(crate) fn read_page(
-    image: &[u8],
-    newest: Chunk,
-    memory: &mut [u64],
-    p: u64,
-    map: u32,
-    kind: Kind,
-) -> Judged
-    requires { ⌜ RightWords (now image) newest (now memory) ⌝ }
-    ensures { λ r. ⌜ RightWords (now (image .entry)) newest (now (memory .exit)) × (r ≡ judgedBy (now (image .entry)) newest map kind p) ⌝ }
+pub(crate) fn read_page(image: &[u8], memory: &mut [u64], m: Map, p: Position) -> Judged
+    requires { ⌜ RightWords (now image) (m .newest) (now memory) ⌝ }
+    ensures { λ r. ⌜ RightWords (now (image .entry)) (m .newest) (now (memory .exit)) × (r ≡ judgedBy (now (image .entry)) (m .newest) (m .id) (m .kind) (p .bits)) ⌝ }
 {
-    if p == 0 {
+    if p.is_empty() {
         return Judged::Refused(Refusal::new(Refusal::PLACE));
     }
-    let at = Position { bits: p };
-    let t = locate(image, newest, memory, at.chunk(), QUESTIONS);
+    let newest = m.newest;
+    let kind = m.kind;
+    let t = locate(image, newest, memory, p.chunk(), QUESTIONS);
     match t {
-        Told::At { place, need: _ } => page::judge(image, place, at, map, kind),
+        Told::At { place, need: _ } => page::judge(image, place, p, m.id, kind),
         Told::Refused(r) => Judged::Refused(r),
     }
 }
@@ -47,20 +41,13 @@ pub(crate) fn root_at(image: &[u8], newest: Chunk, memory: &mut [u64], map: u32)
     ensures { λ r. ⌜ RightWords (now (image .entry)) newest (now (memory .exit)) × (rootSaid r ≡ mapRoot (now (image .entry)) newest map) ⌝ }
 {
     if map == 0 {
-        return Root::At(newest.root);
+        return Root::At(Position { bits: newest.root });
     }
     let key = root_key(map);
     let bytes = key.bytes;
     let n = key.len;
-    let f = descend(
-        image,
-        newest,
-        memory,
-        newest.root,
-        0,
-        Kind::Text,
-        &bytes[..n],
-        QUESTIONS,
-    );
+    let m = Map::metadata(newest);
+    let root = Position { bits: newest.root };
+    let f = descend(image, memory, m, root, &bytes[..n], QUESTIONS);
     root_by(image, f)
 }

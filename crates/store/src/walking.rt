@@ -1,4 +1,5 @@
 // One step of the walk in a store that is open.
+use super::Map;
 use super::down::down_by;
 use super::down::leftmost_from;
 use super::read::root_at;
@@ -13,41 +14,34 @@ use cursor::placed;
 use key::Kind;
 use metadata::Root;
 use opening::Chunk;
+use position::Position;
 use refusal::Refusal;
 ghost use mathlib.Core.Path.{_≡_};
 ghost use Rattle.cursor.specs.Walk.{numbers, movedBy, settled};
-ghost use Rattle.store.specs.Store.{reader};
+ghost use Rattle.store.specs.Store.{pagesOf};
 ghost use Rattle.store.specs.Memory.{RightWords};
 ghost use Rattle.store.specs.Walk.{stepIn};
 
 // The step from a state in the map whose root is given.
-fn advance_from(
-    image: &[u8],
-    newest: Chunk,
-    memory: &mut [u64],
-    root: u64,
-    map: u32,
-    kind: Kind,
-    w: Walk,
-) -> Stepped
-    requires { ⌜ RightWords (now image) newest (now memory) ⌝ }
-    ensures { λ r. ⌜ r ≡ settled w (movedBy (reader (now (image .entry)) newest map kind) root (numbers w)) ⌝ }
+fn advance_from(image: &[u8], memory: &mut [u64], m: Map, root: Position, w: Walk) -> Stepped
+    requires { ⌜ RightWords (now image) (m .newest) (now memory) ⌝ }
+    ensures { λ r. ⌜ r ≡ settled w (movedBy (pagesOf (now (image .entry)) m) (root .bits) (numbers w)) ⌝ }
 {
     if is_formed(w) {} else {
         return w.refused(Refusal::new(Refusal::UNSOUND));
     }
     if w.depth == 0 {
-        if root == 0 {
+        if root.is_empty() {
             return w.done();
         }
-        let m = leftmost_from(image, newest, memory, root, map, kind, 0);
-        return left_step(w, 0, 0, m);
+        let l = leftmost_from(image, memory, m, root, 0);
+        return left_step(w, 0, 0, l);
     }
-    if root == 0 {
+    if root.is_empty() {
         return w.refused(Refusal::new(Refusal::UNSOUND));
     }
     let places = w.places;
-    let d = down_by(image, newest, memory, root, map, kind, places, w.depth);
+    let d = down_by(image, memory, m, root, w);
     match d {
         Down::Entry {
             level,
@@ -65,29 +59,23 @@ fn advance_from(
             number,
             position,
         } => {
-            let m = leftmost_from(image, newest, memory, position, map, kind, level + 1);
-            left_step(w, level, number, m)
+            let l = leftmost_from(image, memory, m, position, level + 1);
+            left_step(w, level, number, l)
         }
         Down::Over => w.done(),
         Down::Refused(r) => w.refused(r),
     }
 }
 
-fn advance_with(
-    image: &[u8],
-    newest: Chunk,
-    memory: &mut [u64],
-    map: u32,
-    kind: Kind,
-    w: Walk,
-) -> Stepped
-    requires { ⌜ RightWords (now image) newest (now memory) ⌝ }
-    ensures { λ r. ⌜ r ≡ stepIn (now (image .entry)) newest map kind w ⌝ }
+fn advance_with(image: &[u8], memory: &mut [u64], m: Map, w: Walk) -> Stepped
+    requires { ⌜ RightWords (now image) (m .newest) (now memory) ⌝ }
+    ensures { λ r. ⌜ r ≡ stepIn (now (image .entry)) (m .newest) (m .id) (m .kind) w ⌝ }
 {
-    let r = root_at(image, newest, memory, map);
+    let newest = m.newest;
+    let r = root_at(image, newest, memory, m.id);
     match r {
         Root::Refused(r) => w.refused(r),
-        Root::At(p) => advance_from(image, newest, memory, p, map, kind, w),
+        Root::At(p) => advance_from(image, memory, m, p, w),
     }
 }
 
@@ -96,5 +84,10 @@ pub fn advance(image: &[u8], newest: Chunk, map: u32, kind: Kind, w: Walk) -> St
     ensures { λ r. ⌜ r ≡ stepIn (now (image .entry)) newest map kind w ⌝ }
 {
     let mut memory = few_words();
-    advance_with(image, newest, &mut memory, map, kind, w)
+    let m = Map {
+        newest,
+        id: map,
+        kind,
+    };
+    advance_with(image, &mut memory, m, w)
 }

@@ -10,4 +10,10 @@ returns : tie.Need-returns
 returns c = c .before .named-with .ensures
 
 pub map-id-spec : {M : Type 1} → statement M
-map-id-spec = tie.close (tie.spec (λ c κs. search needs) (λ c. search needs) named-with-requires returns)
+map-id-spec =
+    tie.close
+    (tie.spec
+    (λ c κs. search needs)
+    (λ c. search needs)
+    named-with-requires
+    returns)

@@ -10,4 +10,10 @@ returns : tie.Need-returns
 returns c = c .before .count-with .ensures
 
 pub count-spec : {M : Type 1} → statement M
-count-spec = tie.close (tie.spec (λ c κs. search needs) (λ c. search needs) count-with-requires returns)
+count-spec =
+    tie.close
+    (tie.spec
+    (λ c κs. search needs)
+    (λ c. search needs)
+    count-with-requires
+    returns)

@@ -10,4 +10,10 @@ returns : tie.Need-returns
 returns c = c .before .index-with .ensures
 
 pub index-spec : {M : Type 1} → statement M
-index-spec = tie.close (tie.spec (λ c κs. search needs) (λ c. search needs) index-with-requires returns)
+index-spec =
+    tie.close
+    (tie.spec
+    (λ c κs. search needs)
+    (λ c. search needs)
+    index-with-requires
+    returns)

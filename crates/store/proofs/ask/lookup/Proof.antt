@@ -10,4 +10,10 @@ returns : tie.Need-returns
 returns c = c .before .lookup-with .ensures
 
 pub lookup-spec : {M : Type 1} → statement M
-lookup-spec = tie.close (tie.spec (λ c κs. search needs) (λ c. search needs) lookup-with-requires returns)
+lookup-spec =
+    tie.close
+    (tie.spec
+    (λ c κs. search needs)
+    (λ c. search needs)
+    lookup-with-requires
+    returns)

@@ -12,20 +12,20 @@ use Rattle.store.proofs.down.down_by.Statement.{statement}
 use Rattle.store.proofs.down.down_by.Tie as tie
 
 abbrev Inv-loop : tie.InvT-loop
-Inv-loop image newest memory₀ root map kind depth places p₀ level₀ found₀ number₀ next₀ memory p level found number next =
-    RightWords image newest memory × Going image newest map kind places depth root level p found number next ×
+Inv-loop image memory₀ m kind places depth p₀ level₀ found₀ number₀ next₀ memory p level found number next =
+    RightWords image (m .newest) memory × Going image (m .newest) (m .id) (m .kind) places depth (p₀ .bits) level (p .bits) found number next ×
     (length memory ≡ length memory₀)
 
 abbrev μ-loop : tie.MeasureT-loop
-μ-loop image newest memory₀ root map kind depth places p₀ level₀ found₀ number₀ next₀ memory p level found number next = depth - level
+μ-loop image memory₀ m kind places depth p₀ level₀ found₀ number₀ next₀ memory p level found number next = depth - level
 
 loop-holds : tie.Need-loop-holds Inv-loop μ-loop
 loop-holds c =
-    let a = c .before .before .args in
-    let pre = c .before .before .pre in (
-      pre .3,
-      going-root (now (a .image)) (a .newest) (a .map) (a .kind) (a .t7) (a .depth) (a .root) (omega arith) (omega arith) (omega arith)
-          (omega arith) 0 0,
+    let a = c .before .before .before .args in
+    let pre = c .before .before .before .pre in (
+      pre .4,
+      going-root (now (a .image)) (a .m .newest) (a .m .id) (a .m .kind) (a .w .places) (a .w .depth) (a .root .bits) (pre .2) (omega arith) (omega arith)
+          (omega arith) 0 (a .root),
       refl,
     )
 
@@ -34,86 +34,84 @@ read-page-requires c κs = c .before .before .loop .inv .0
 
 returns : tie.Need-returns Inv-loop μ-loop
 returns c =
-    let a = c .before .before .before .before .before .before .before .before .before .before .before .before .args in
-    let few : a .depth ≤ length (a .t7) = omega arith in
-    let most : a .depth ≤ 16 = omega arith in
+    let a = c .before .before .before .before .before .before .before .before .before .before .before .before .before .args in
+    let few : a .w .depth ≤ length (a .w .places) = c .before .before .before .before .before .before .before .before .before .before .before .before .before .pre .2 in
+    let most : a .w .depth ≤ 16 = c .before .before .before .before .before .before .before .before .before .before .before .before .before .pre .1 in
     let l = c .before .before .before .before .before .before .before .before .before .loop in
     let r = c .before .before .before .before .before .before .read-page in
     let after-at = c .before .before .before .after-at in
     let found = c .before .a in (
       r .ensures .0,
-      going-refused (now (a .image)) (a .newest) (a .map) (a .kind) (a .t7) (a .depth) (a .root) few most (l .inv .1)
+      going-refused (now (a .image)) (a .m .newest) (a .m .id) (a .m .kind) (a .w .places) (a .w .depth) (a .root .bits) few most (l .inv .1)
           (r .ensures .1) (after-at .ensures) (found .given .1),
     )
 
-add-t34 : tie.Need-add-t34 Inv-loop μ-loop
-add-t34 c =
-    let s = c .before .before .before .before .before .before .before .before .before .before .before .before in
+add-t33 : tie.Need-add-t33 Inv-loop μ-loop
+add-t33 c =
+    let s = c .before .before .before .before .before .before .before .before .before .before .before .before .before in
     let a = s .args in
-    let sixteen = s .good .1 .1 .1 .1 .1 .1 .0 .1 .0 .1 in
-    let few : a .depth ≤ length (a .t7) = omega (arith, s .pre .1, sixteen) in
-    let most : a .depth ≤ 16 = s .pre .1 in
+    let few : a .w .depth ≤ length (a .w .places) = c .before .before .before .before .before .before .before .before .before .before .before .before .before .pre .2 in
+    let most : a .w .depth ≤ 16 = c .before .before .before .before .before .before .before .before .before .before .before .before .before .pre .1 in
     let l = c .before .before .before .before .before .before .before .before .before .loop in
     let r = c .before .before .before .before .before .before .read-page in
     let after-at = c .before .before .before .after-at in
     let a2 = c .before .a2 in
     omega (
       arith,
-      entry-few (now (a .image)) (a .newest) (a .map) (a .kind) (a .t7) (a .depth) (a .root) few most (l .inv .1)
+      entry-few (now (a .image)) (a .m .newest) (a .m .id) (a .m .kind) (a .w .places) (a .w .depth) (a .root .bits) few most (l .inv .1)
           (r .ensures .1) (after-at .ensures) (a2 .given .1),
     )
 
 returns-2 : tie.Need-returns-2 Inv-loop μ-loop
 returns-2 c =
-    let s = c .before .before .before .before .before .before .before .before .before .before .before .before in
+    let s = c .before .before .before .before .before .before .before .before .before .before .before .before .before in
     let a = s .args in
-    let sixteen = s .good .1 .1 .1 .1 .1 .1 .0 .1 .0 .1 in
-    let few : a .depth ≤ length (a .t7) = omega (arith, s .pre .1, sixteen) in
-    let most : a .depth ≤ 16 = s .pre .1 in
+    let few : a .w .depth ≤ length (a .w .places) = c .before .before .before .before .before .before .before .before .before .before .before .before .before .pre .2 in
+    let most : a .w .depth ≤ 16 = c .before .before .before .before .before .before .before .before .before .before .before .before .before .pre .1 in
     let l = c .before .before .before .before .before .before .before .before .before .loop in
     let r = c .before .before .before .before .before .before .read-page in
     let after-at = c .before .before .before .after-at in
     let a2 = c .before .a2 in (
       r .ensures .0,
-      going-entry (now (a .image)) (a .newest) (a .map) (a .kind) (a .t7) (a .depth) (a .root) few most (l .inv .1)
+      going-entry (now (a .image)) (a .m .newest) (a .m .id) (a .m .kind) (a .w .places) (a .w .depth) (a .root .bits) few most (l .inv .1)
           (r .ensures .1) (after-at .ensures) (a2 .given .1),
     )
 
 returns-3 : tie.Need-returns-3 Inv-loop μ-loop
 returns-3 c =
-    let a = c .before .before .before .before .before .before .before .before .before .before .before .before .args in
-    let few : a .depth ≤ length (a .t7) = omega arith in
-    let most : a .depth ≤ 16 = omega arith in
+    let a = c .before .before .before .before .before .before .before .before .before .before .before .before .before .args in
+    let few : a .w .depth ≤ length (a .w .places) = c .before .before .before .before .before .before .before .before .before .before .before .before .before .pre .2 in
+    let most : a .w .depth ≤ 16 = c .before .before .before .before .before .before .before .before .before .before .before .before .before .pre .1 in
     let l = c .before .before .before .before .before .before .before .before .before .loop in
     let r = c .before .before .before .before .before .before .read-page in
     let after-at = c .before .before .before .after-at in
     let enum-told = c .before .enum-told in
     let over-at = c .over-at in (
       r .ensures .0,
-      going-over (now (a .image)) (a .newest) (a .map) (a .kind) (a .t7) (a .depth) (a .root) few most (l .inv .1)
+      going-over (now (a .image)) (a .m .newest) (a .m .id) (a .m .kind) (a .w .places) (a .w .depth) (a .root .bits) few most (l .inv .1)
           (r .ensures .1) (after-at .ensures) (enum-told .given .1) (over-at .ensures),
     )
 
 add-number : tie.Need-add-number Inv-loop μ-loop
 add-number c =
-    let a = c .before .before .before .before .before .before .before .before .before .before .before .before .args in
-    let few : a .depth ≤ length (a .t7) = omega arith in
-    let most : a .depth ≤ 16 = omega arith in
+    let a = c .before .before .before .before .before .before .before .before .before .before .before .before .before .args in
+    let few : a .w .depth ≤ length (a .w .places) = c .before .before .before .before .before .before .before .before .before .before .before .before .before .pre .2 in
+    let most : a .w .depth ≤ 16 = c .before .before .before .before .before .before .before .before .before .before .before .before .before .pre .1 in
     let l = c .before .before .before .before .before .before .before .before .before .loop in
     let r = c .before .before .before .before .before .before .read-page in
     let after-at = c .before .before .before .after-at in
     let a4 = c .before .a4 in
     omega (
       arith,
-      child-few (now (a .image)) (a .newest) (a .map) (a .kind) (a .t7) (a .depth) (a .root) few most (l .inv .1)
+      child-few (now (a .image)) (a .m .newest) (a .m .id) (a .m .kind) (a .w .places) (a .w .depth) (a .root .bits) few most (l .inv .1)
           (r .ensures .1) (after-at .ensures) (a4 .given .1),
     )
 
 loop-again : tie.Need-loop-again Inv-loop μ-loop
 loop-again c =
-    let a = c .before .before .before .before .before .before .before .before .before .before .args in
-    let few : a .depth ≤ length (a .t7) = omega arith in
-    let most : a .depth ≤ 16 = omega arith in
+    let a = c .before .before .before .before .before .before .before .before .before .before .before .args in
+    let few : a .w .depth ≤ length (a .w .places) = c .before .before .before .before .before .before .before .before .before .before .before .pre .2 in
+    let most : a .w .depth ≤ 16 = c .before .before .before .before .before .before .before .before .before .before .before .pre .1 in
     let l = c .before .before .before .before .before .before .before .loop in
     let r = c .before .before .before .before .read-page in
     let after-at = c .before .after-at in
@@ -121,10 +119,10 @@ loop-again c =
       r .ensures .0,
       ⊎-elim
           (λ w. rw (w .3, w .4, w .5, w .6)
-          (going-last (now (a .image)) (a .newest) (a .map) (a .kind) (a .t7) (a .depth) (a .root) few most (l .inv .1)
+          (going-last (now (a .image)) (a .m .newest) (a .m .id) (a .m .kind) (a .w .places) (a .w .depth) (a .root .bits) few most (l .inv .1)
           (r .ensures .1) (after-at .ensures) (w .1 .given .1)))
           (λ w. rw (w .3, w .4, w .5, w .6)
-          (going-child (now (a .image)) (a .newest) (a .map) (a .kind) (a .t7) (a .depth) (a .root) few most (l .inv .1)
+          (going-child (now (a .image)) (a .m .newest) (a .m .id) (a .m .kind) (a .w .places) (a .w .depth) (a .root .bits) few most (l .inv .1)
           (r .ensures .1) (after-at .ensures) (w .1 .given .1)))
           (branch .came),
       search needs,
@@ -150,7 +148,7 @@ down-by-spec =
     (λ c. search needs)
     returns
     (λ c. search needs)
-    add-t34
+    add-t33
     (λ c. search needs)
     returns-2
     (λ c. search needs)

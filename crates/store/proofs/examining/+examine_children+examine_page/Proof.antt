@@ -28,10 +28,10 @@ use Rattle.store.proofs.examining.+examine_children+examine_page.{state
 use Rattle.store.proofs.examining.+examine_children+examine_page.Tie.{close}
 
 abbrev μ-examine-children : Measures 2 examine-children-kinds.ps ℕ
-μ-examine-children κs a = 2 * a .1 .1 .1 .1 .1 .1 .1 .0 + 1
+μ-examine-children κs a = 2 * a .1 .1 .1 .1 .1 .0 + 1
 
 abbrev μ-examine-page : Measures 2 examine-page-kinds.ps ℕ
-μ-examine-page κs a = 2 * a .1 .1 .1 .1 .1 .1 .1 .1 .0
+μ-examine-page κs a = 2 * a .1 .1 .1 .1 .1 .1 .0
 
 abbrev examine-children-at : ℕ → In 2 examine-children-kinds.ps
 examine-children-at t =
@@ -62,12 +62,12 @@ examine-page-below t =
     examine-page.Pre
 
 abbrev examine-children-Inv-loop : examine-children-lts.InvT-loop
-examine-children-Inv-loop image newest memory₀ map kind page levels r₀ lo₀ hi counts₀ keys₀ j₀ memory r lo counts keys j =
-    RightWords image newest memory × Came image newest map kind levels page lo₀ hi j counts keys lo r ×
+examine-children-Inv-loop image memory₀ m page levels kind r₀ lo₀ hi counts₀ keys₀ j₀ memory r lo counts keys j =
+    RightWords image (m .newest) memory × Came image (m .newest) (m .id) (m .kind) levels page lo₀ hi j counts keys lo r ×
     (length memory ≡ length memory₀)
 
 abbrev examine-children-μ-loop : examine-children-lts.MeasureT-loop
-examine-children-μ-loop image newest memory₀ map kind page levels r₀ lo₀ hi counts₀ keys₀ j₀ memory r lo counts keys j =
+examine-children-μ-loop image memory₀ m page levels kind r₀ lo₀ hi counts₀ keys₀ j₀ memory r lo counts keys j =
     page .n - j
 
 examine-children-meets : {M : Type 1} (t : ℕ) → examine-children-lts.Closed (
@@ -93,56 +93,56 @@ examine-children-meets t = examine-children-lts.spec (
     (λ c.
     let a = c .before .before .args in
     let g = c .before .before .pre .1 in
-    (g .1, came-first (now (a .image)) (a .newest) (a .map) (a .kind) (a .levels) (a .page) (a .span .lo) (a .span .hi) (g .2 .1), refl))
+    (g .1, came-first (now (a .image)) (a .m .newest) (a .m .id) (a .m .kind) (a .levels) (a .page) (a .span .lo) (a .span .hi) (g .2 .1), refl))
     (λ c κs. search needs)
     (λ c κs.
-    let g = c .before .before .before .before .before .pre in
-    (omega (arith, g .0), (omega (arith, g .1 .0), c .before .before .loop .inv .0)))
+    let g = c .before .before .before .before .before .before .pre in
+    (omega (arith, g .0), (omega (arith, g .1 .0), c .before .before .before .loop .inv .0)))
     (λ c κs.
-    let a = c .before .before .before .before .before .before .before .before .args in
-    let g = c .before .before .before .before .before .before .before .before .pre .1 in
-    let l = c .before .before .before .before .before .loop in
-    came-fits (now (a .image)) (a .newest) (a .map) (a .kind) (a .levels) (a .page) (a .span .lo) (a .span .hi) (g .2 .1) (l .j) (l .counts)
-    (l .keys) (l .lo) (l .r) (l .inv .1) (c .before .before .before .before .child-at .ensures)
+    let a = c .before .before .before .before .before .before .before .before .before .args in
+    let g = c .before .before .before .before .before .before .before .before .before .pre .1 in
+    let l = c .before .before .before .before .before .before .loop in
+    came-fits (now (a .image)) (a .m .newest) (a .m .id) (a .m .kind) (a .levels) (a .page) (a .span .lo) (a .span .hi) (g .2 .1) (l .j) (l .counts)
+    (l .keys) (l .lo) (l .r) (l .inv .1) (c .before .before .before .before .before .child-at .ensures)
     (g .0) (c .before .before .examine-page .ensures .1))
     (λ c. search needs)
     (λ c. search needs)
     (λ c. search needs)
     (λ c.
-    let a = c .before .before .before .before .before .before .before .before .before .before .before .args in
-    let g = c .before .before .before .before .before .before .before .before .before .before .before .pre .1 in
-    let l = c .before .before .before .before .before .before .before .before .loop in (
+    let a = c .before .before .before .before .before .before .before .before .before .before .before .before .args in
+    let g = c .before .before .before .before .before .before .before .before .before .before .before .before .pre .1 in
+    let l = c .before .before .before .before .before .before .before .before .before .loop in (
       c .before .before .before .before .before .examine-page .ensures .0,
-      came-stopped (now (a .image)) (a .newest) (a .map) (a .kind) (a .levels) (a .page)
+      came-stopped (now (a .image)) (a .m .newest) (a .m .id) (a .m .kind) (a .levels) (a .page)
           (a .span .lo) (a .span .hi) (g .2 .1) (l .j) (l .counts) (l .keys) (l .lo) (l .r) (l .inv .1)
-          (c .before .before .before .before .before .before .before .child-at .ensures)
+          (c .before .before .before .before .before .before .before .before .child-at .ensures)
           (c .before .before .before .before .before .examine-page .ensures .1) (c .before .before .tally .ensures) (c .enum-told .given .1),
     ))
     (λ c. search needs)
     (λ c.
-    let a = c .before .before .before .before .before .before .before .before .before .before .before .before .before .before .args in
-    let g = c .before .before .before .before .before .before .before .before .before .before .before .before .before .before .pre .1 in
-    let l = c .before .before .before .before .before .before .before .before .before .before .before .loop in (
+    let a = c .before .before .before .before .before .before .before .before .before .before .before .before .before .before .before .args in
+    let g = c .before .before .before .before .before .before .before .before .before .before .before .before .before .before .before .pre .1 in
+    let l = c .before .before .before .before .before .before .before .before .before .before .before .before .loop in (
       c .before .before .before .before .before .before .before .before .examine-page .ensures .0,
-      came-last (now (a .image)) (a .newest) (a .map) (a .kind)
+      came-last (now (a .image)) (a .m .newest) (a .m .id) (a .m .kind)
           (a .levels) (a .page) (a .span .lo) (a .span .hi) (g .2 .1) (l .j) (l .counts) (l .keys) (l .lo) (l .r) (l .inv .1)
-          (c .before .before .before .before .before .before .before .before .before .before .child-at .ensures)
+          (c .before .before .before .before .before .before .before .before .before .before .before .child-at .ensures)
           (c .before .before .before .before .before .before .before .before .examine-page .ensures .1) (c .before .before .before .before .before .tally .ensures)
           (c .before .before .before .t .given .1) (c .if1 .taken),
     ))
     (λ c.
-    let l = c .before .before .before .before .before .before .before .before .before .before .before .loop in
-    let w = c .before .before .before .before .before .before .before .before .before .before .before .before .before .before .pre .1 .2 .1 in
+    let l = c .before .before .before .before .before .before .before .before .before .before .before .before .loop in
+    let w = c .before .before .before .before .before .before .before .before .before .before .before .before .before .before .before .pre .1 .2 .1 in
     omega (arith, l .inv .1 .here, w .few))
-    (λ c. omega (arith, c .before .before .before .before .before .before .before .before .before .before .before .loop .inv .1 .here))
+    (λ c. omega (arith, c .before .before .before .before .before .before .before .before .before .before .before .before .loop .inv .1 .here))
     (λ c.
-    let a = c .before .before .before .before .before .before .before .before .before .before .before .before .before .before .args in
-    let g = c .before .before .before .before .before .before .before .before .before .before .before .before .before .before .pre .1 in
-    let l = c .before .before .before .before .before .before .before .before .before .before .before .loop in (
+    let a = c .before .before .before .before .before .before .before .before .before .before .before .before .before .before .before .args in
+    let g = c .before .before .before .before .before .before .before .before .before .before .before .before .before .before .before .pre .1 in
+    let l = c .before .before .before .before .before .before .before .before .before .before .before .before .loop in (
       c .before .before .before .before .before .before .before .before .examine-page .ensures .0,
-      came-on (now (a .image)) (a .newest) (a .map) (a .kind)
+      came-on (now (a .image)) (a .m .newest) (a .m .id) (a .m .kind)
           (a .levels) (a .page) (a .span .lo) (a .span .hi) (g .2 .1) (l .j) (l .counts) (l .keys) (l .lo) (l .r) (l .inv .1)
-          (c .before .before .before .before .before .before .before .before .before .before .child-at .ensures)
+          (c .before .before .before .before .before .before .before .before .before .before .before .child-at .ensures)
           (c .before .before .before .before .before .before .before .before .examine-page .ensures .1) (c .before .before .before .before .before .tally .ensures)
           (c .before .before .before .t .given .1) (c .if1 .left),
       search needs,
@@ -182,8 +182,8 @@ examine-page-meets t = examine-page-lts.spec (
     (λ c.
     let a = c .before .before .before .before .args in (
       c .before .before .before .before .pre .1 .1,
-      examined-deep (now (a .image)) (a .newest) (a .map) (a .kind) (a .levels) (a .top) (a .span .lo)
-          (a .span .hi) (a .p) (c .before .if1 .taken) (c .new .ensures),
+      examined-deep (now (a .image)) (a .m .newest) (a .m .id) (a .m .kind) (a .levels) (a .top) (a .span .lo)
+          (a .span .hi) (a .p .bits) (c .before .if1 .taken) (c .new .ensures),
     ))
     (λ c κs. c .before .before .before .before .pre .1 .1)
     (λ c. search needs)
@@ -197,7 +197,7 @@ examine-page-meets t = examine-page-lts.spec (
     let a = c .before .before .before .before .before .before .before .before .before .before .before .before .before .args in
     let e = c .before .before .before .before .before .before .before .before .read-page .ensures in (
       e .0,
-      examined-unsound (now (a .image)) (a .newest) (a .map) (a .kind) (a .levels) (a .top) (a .span .lo) (a .span .hi) (a .p)
+      examined-unsound (now (a .image)) (a .m .newest) (a .m .id) (a .m .kind) (a .levels) (a .top) (a .span .lo) (a .span .hi) (a .p .bits)
           (c .before .before .before .before .before .before .before .before .before .before .if1 .left) (e .1) (c .before .before .before .before .j3 .given .1) (sym
           (c .before .before .separators-lie .ensures) ∙ c .before .if2 .left) (c .new2 .ensures),
     ))
@@ -212,7 +212,7 @@ examine-page-meets t = examine-page-lts.spec (
         e .0,
         (
           _,
-          inner-stands (now (a .image)) (a .newest) (a .map) (a .kind) (a .levels) (a .top) (a .span .lo) (a .span .hi) (a .p)
+          inner-stands (now (a .image)) (a .m .newest) (a .m .id) (a .m .kind) (a .levels) (a .top) (a .span .lo) (a .span .hi) (a .p .bits)
               (c .before .before .before .before .before .before .before .before .before .before .if1 .left) (e .1) (c .before .before .before .before .j3 .given .1),
         ),
       ),
@@ -221,19 +221,19 @@ examine-page-meets t = examine-page-lts.spec (
     let a = c .before .before .before .before .before .before .before .before .before .before .before .before .before .before .before .before .args in
     let g = c .before .before .before .before .before .before .before .before .before .before .before .before .before .before .before .before .pre in
     let e = c .before .before .before .before .before .before .before .before .before .before .before .read-page .ensures in
-    let w = inner-stands (now (a .image)) (a .newest) (a .map) (a .kind) (a .levels) (a .top) (a .span .lo) (a .span .hi) (a .p)
+    let w = inner-stands (now (a .image)) (a .m .newest) (a .m .id) (a .m .kind) (a .levels) (a .top) (a .span .lo) (a .span .hi) (a .p .bits)
     (c .before .before .before .before .before .before .before .before .before .before .before .before .before .if1 .left) (e .1)
     (c .before .before .before .before .before .before .before .j3 .given .1) in
     let v = c .before .before .before .before .before .before .before .j3 .given .0 in
     let b : Inner = record { n = v .0; positions = v .1 .0; counts = v .1 .1 .0; keys = v .1 .1 .1 .0; end = v .1 .1 .1 .1 .0 } in
-    over-fits (now (a .image)) (a .newest) (a .map) (a .kind) (a .levels - 1) b (a .span .lo) (a .span .hi) (omega
+    over-fits (now (a .image)) (a .m .newest) (a .m .id) (a .m .kind) (a .levels - 1) b (a .span .lo) (a .span .hi) (omega
     (arith, g .1 .0, c .before .before .before .before .before .before .before .before .before .before .before .before .before .if1 .left)) w (c .before .before .examine-children .ensures .1))
     (λ c. search needs)
     (λ c.
     let a = c .before .before .before .before .before .before .before .before .before .before .args in
     let e = c .before .before .before .before .before .read-page .ensures in (
       e .0,
-      examined-refused (now (a .image)) (a .newest) (a .map) (a .kind) (a .levels) (a .top) (a .span .lo) (a .span .hi) (a .p)
+      examined-refused (now (a .image)) (a .m .newest) (a .m .id) (a .m .kind) (a .levels) (a .top) (a .span .lo) (a .span .hi) (a .p .bits)
           (c .before .before .before .before .before .before .before .if1 .left) (e .1) (c .before .j .given .1),
     ))
     (λ c. search needs)
@@ -241,8 +241,8 @@ examine-page-meets t = examine-page-lts.spec (
     let a = c .before .before .before .before .before .before .before .before .before .before .before .args in
     let e = c .before .before .before .before .before .before .read-page .ensures in (
       e .0,
-      c .leaf-of .ensures ∙ examined-leaf (now (a .image)) (a .newest) (a .map) (a .kind) (a .levels) (a .top) (a .span .lo) (a .span .hi)
-          (a .p) (c .before .before .before .before .before .before .before .before .if1 .left) (e .1) (c .before .before .j2 .given .1),
+      c .leaf-of .ensures ∙ examined-leaf (now (a .image)) (a .m .newest) (a .m .id) (a .m .kind) (a .levels) (a .top) (a .span .lo) (a .span .hi)
+          (a .p .bits) (c .before .before .before .before .before .before .before .before .if1 .left) (e .1) (c .before .before .j2 .given .1),
     ))
     (λ c. search needs)
     (λ c.
@@ -250,8 +250,8 @@ examine-page-meets t = examine-page-lts.spec (
     let e = c .before .before .before .before .before .before .before .before .before .before .before .before .read-page .ensures in
     let f = c .before .before .before .examine-children .ensures in (
       f .0,
-      c .over-children .ensures ∙ ap overChildren (f .1) ∙ examined-inner (now (a .image)) (a .newest) (a .map) (a .kind) (a .levels)
-          (a .top) (a .span .lo) (a .span .hi) (a .p) (c .before .before .before .before .before .before .before .before .before .before .before .before .before .before .if1 .left)
+      c .over-children .ensures ∙ ap overChildren (f .1) ∙ examined-inner (now (a .image)) (a .m .newest) (a .m .id) (a .m .kind) (a .levels)
+          (a .top) (a .span .lo) (a .span .hi) (a .p .bits) (c .before .before .before .before .before .before .before .before .before .before .before .before .before .before .if1 .left)
           (e .1) (c .before .before .before .before .before .before .before .before .j3 .given .1) (sym (c .before .before .before .before .before .before .separators-lie .ensures)
           ∙ c .before .before .before .before .before .if2 .taken),
     ))

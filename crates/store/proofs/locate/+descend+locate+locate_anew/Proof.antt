@@ -8,11 +8,14 @@ use borrow.Author.Needs.{needs}
 use Rattle.key.specs.Key.{keyOf}
 use Rattle.metadata.specs.Keys.{chunkKey}
 use Rattle.metadata.specs.KeyLaws.{padded-text, padded-inside}
+use Rattle.position.specs.Laws.{empty-zero, full-other}
 use Rattle.store.specs.Memory.{RightWords}
 use Rattle.store.specs.MemoryLaws.{empty-right, crowded-few}
 use Rattle.store.specs.SettleLaws.{sought-few}
 use Rattle.store.specs.CycleLaws.{Came, came-root, came-on, sought-empty, sought-zero, sought-deep, sought-done}
 use Rattle.store.specs.CycleLaws.{tells-newest, tells-few, tells-recalled, tells-ninth, tells-settled}
+use Rattle.position.proofs.Position.is_empty.Reads as is-empty-reads
+use Rattle.store.proofs.Map.metadata.Reads as metadata-reads
 use borrow.Fn.Kinds.{In}
 use borrow.Fn.PlainCycle.{Measures, is, falls, and}
 use Rattle.store.proofs.locate.descend.Reads as descend
@@ -37,7 +40,7 @@ use Rattle.store.proofs.locate.+descend+locate+locate_anew.{statement}
 use Rattle.store.proofs.locate.+descend+locate+locate_anew.Tie.{close}
 
 abbrev μ-descend : Measures 3 descend-kinds.ps ℕ
-μ-descend κs a = 20000 * a .1 .1 .1 .1 .1 .1 .1 .0 + 16385
+μ-descend κs a = 20000 * a .1 .1 .1 .1 .1 .0 + 16385
 
 abbrev μ-locate : Measures 2 locate-kinds.ps ℕ
 μ-locate κs a = 20000 * a .1 .1 .1 .1 .0 + 2 * (8192 - length (now (a .1 .1 .0)))
@@ -64,14 +67,16 @@ abbrev locate-anew-below : ℕ → In 1 locate-anew-kinds.ps
 locate-anew-below t = and 1 locate-anew-kinds.ps (falls 1 locate-anew-kinds.ps _<_ μ-locate-anew t) locate-anew.Pre
 
 abbrev descend-Inv-loop : descend-lts.InvT-loop
-descend-Inv-loop image newest memory₀ root map kind key q p₀ need₀ left₀ memory p need left =
-    RightWords image newest memory × Came image newest map kind root (keyOf kind key) q need left p ×
+descend-Inv-loop image memory₀ m key q newest kind p₀ need₀ left₀ memory p need left =
+    RightWords image (m .newest) memory × Came image (m .newest) (m .id) (m .kind) (p₀ .bits) (keyOf (m .kind) key) q need left (p .bits) ×
     (length memory ≡ length memory₀)
 
 abbrev descend-μ-loop : descend-lts.MeasureT-loop
-descend-μ-loop image newest memory₀ root map kind key q p₀ need₀ left₀ memory p need left = left
+descend-μ-loop image memory₀ m key q newest kind p₀ need₀ left₀ memory p need left = left
 
 descend-meets : {M : Type 1} (t : ℕ) → descend-lts.Closed (
+  is-empty-reads.Asked,
+  is-empty-reads.Learnt,
   new-reads.Asked,
   new-reads.Learnt,
   chunk-reads.Asked,
@@ -82,6 +87,8 @@ descend-meets : {M : Type 1} (t : ℕ) → descend-lts.Closed (
   advance-at-reads.Learnt,
 ) (descend-at t) descend.Post M
 descend-meets t = descend-lts.spec (
+  is-empty-reads.Asked,
+  is-empty-reads.Learnt,
   new-reads.Asked,
   new-reads.Learnt,
   chunk-reads.Asked,
@@ -95,40 +102,42 @@ descend-meets t = descend-lts.spec (
     descend.Post
     descend-Inv-loop
     descend-μ-loop
+    (λ c κs. search needs)
     (λ c.
-    let a = c .before .before .before .before .args in
-    (c .before .before .before .before .pre .1 .1, sought-empty (now (a .image)) (a .newest) (a .map) (a .kind) (a .root) (keyOf (a .kind) (now (a .key))) (a .q) (c .if1 .taken)))
+    let a = c .before .before .before .before .before .args in
+    (c .before .before .before .before .before .pre .1 .1, sought-empty (now (a .image)) (a .m .newest) (a .m .id) (a .m .kind) (a .root .bits) (keyOf (a .m .kind) (now (a .key))) (a .q) (empty-zero (c .before .is-empty .ensures) (c .if1 .taken))))
     (λ c.
-    let a = c .before .before .before .before .args in
-    (c .before .before .before .before .pre .1 .1, came-root (now (a .image)) (a .newest) (a .map) (a .kind) (a .root) (keyOf (a .kind) (now (a .key))) (a .q) (c .if1 .left), refl))
+    let a = c .before .before .before .before .before .before .args in
+    (c .before .before .before .before .before .before .pre .1 .1, came-root (now (a .image)) (a .m .newest) (a .m .id) (a .m .kind) (a .root .bits) (keyOf (a .m .kind) (now (a .key))) (a .q) (full-other (c .before .before .is-empty .ensures) (c .before .if1 .left)), refl))
+    (λ c κs. search needs)
     (λ c κs. search needs)
     (λ c. search needs)
     (λ c.
-    let a = c .before .before .before .before .before .before .before .before .args in
-    let l = c .before .before .before .loop in
-    (l .inv .0, sought-zero (now (a .image)) (a .newest) (a .map) (a .kind) (a .root) (keyOf (a .kind) (now (a .key))) (a .q) (l .left) (l .p) (omega arith) (c .before .if2 .taken) (l .inv .1) (c .new .ensures)))
+    let a = c .before .before .before .before .before .before .before .before .before .before .before .args in
+    let l = c .before .before .before .before .loop in
+    (l .inv .0, sought-zero (now (a .image)) (a .m .newest) (a .m .id) (a .m .kind) (a .root .bits) (keyOf (a .m .kind) (now (a .key))) (a .q) (l .left) (l .p .bits) (omega arith) (empty-zero (c .before .before .is-empty2 .ensures) (c .before .if2 .taken)) (l .inv .1) (c .new .ensures)))
     (λ c κs. search needs)
-    (λ c κs. (omega (arith, c .before .before .before .before .before .before .before .before .before .pre .0), (omega (arith, c .before .before .before .before .before .before .before .before .before .pre .1 .0), c .before .before .before .before .loop .inv .0)))
+    (λ c κs. (omega (arith, c .before .before .before .before .before .before .before .before .before .before .before .before .pre .0), (omega (arith, c .before .before .before .before .before .before .before .before .before .before .before .before .pre .1 .0), c .before .before .before .before .before .loop .inv .0)))
     (λ c κs. search needs)
     (λ c. search needs)
     (λ c. search needs)
     (λ c. search needs)
     (λ c.
-    let a = c .before .before .before .before .before .before .before .before .before .before .before .before .before .before .before .before .args in
-    let l = c .before .before .before .before .before .before .before .before .before .before .before .loop in
-    (c .before .before .before .before .before .before .locate .ensures .0, sought-done (now (a .image)) (a .newest) (a .map) (a .kind) (a .root) (keyOf (a .kind) (now (a .key))) (a .q) (l .need) (l .left) (l .p) _ (c .before .before .before .before .before .before .locate .result) (c .before .before .before .advance-at .result) (omega arith) (c .before .before .before .before .before .before .before .before .before .if2 .left) (l .inv .1) (c .before .before .before .before .before .before .before .chunk .ensures) (c .before .before .before .before .before .before .locate .ensures .1) (c .before .before .before .advance-at .ensures) (c .before .a2 .given .1)))
+    let a = c .before .before .before .before .before .before .before .before .before .before .before .before .before .before .before .before .before .before .before .args in
+    let l = c .before .before .before .before .before .before .before .before .before .before .before .before .loop in
+    (c .before .before .before .before .before .before .locate .ensures .0, sought-done (now (a .image)) (a .m .newest) (a .m .id) (a .m .kind) (a .root .bits) (keyOf (a .m .kind) (now (a .key))) (a .q) (l .need) (l .left) (l .p .bits) _ (c .before .before .before .before .before .before .locate .result) (c .before .before .before .advance-at .result) (omega arith) (full-other (c .before .before .before .before .before .before .before .before .before .before .is-empty2 .ensures) (c .before .before .before .before .before .before .before .before .before .if2 .left)) (l .inv .1) (c .before .before .before .before .before .before .before .chunk .ensures) (c .before .before .before .before .before .before .locate .ensures .1) (c .before .before .before .advance-at .ensures) (c .before .a2 .given .1)))
     (λ c. search needs)
     (λ c. search needs)
     (λ c.
-    let a = c .before .before .before .before .before .before .before .before .before .before .before .before .before .before .before .before .args in
-    let l = c .before .before .before .before .before .before .before .before .before .before .before .loop in
-    (c .before .before .before .before .before .before .locate .ensures .0, came-on (now (a .image)) (a .newest) (a .map) (a .kind) (a .root) (keyOf (a .kind) (now (a .key))) (a .q) (l .need) (l .left) (l .p) _ (c .before .before .before .before .before .before .locate .result) (c .before .before .before .advance-at .result) (omega arith) (c .before .before .before .before .before .before .before .before .before .if2 .left) (l .inv .1) (c .before .before .before .before .before .before .before .chunk .ensures) (c .before .before .before .before .before .before .locate .ensures .1) (c .before .before .before .advance-at .ensures) (c .before .a .given .1), search needs))
+    let a = c .before .before .before .before .before .before .before .before .before .before .before .before .before .before .before .before .before .before .before .args in
+    let l = c .before .before .before .before .before .before .before .before .before .before .before .before .loop in
+    (c .before .before .before .before .before .before .locate .ensures .0, came-on (now (a .image)) (a .m .newest) (a .m .id) (a .m .kind) (a .root .bits) (keyOf (a .m .kind) (now (a .key))) (a .q) (l .need) (l .left) (l .p .bits) _ (c .before .before .before .before .before .before .locate .result) (c .before .before .before .advance-at .result) (omega arith) (full-other (c .before .before .before .before .before .before .before .before .before .before .is-empty2 .ensures) (c .before .before .before .before .before .before .before .before .before .if2 .left)) (l .inv .1) (c .before .before .before .before .before .before .before .chunk .ensures) (c .before .before .before .before .before .before .locate .ensures .1) (c .before .before .before .advance-at .ensures) (c .before .a .given .1), search needs))
     (λ c κs. search needs)
     (λ c. search needs)
     (λ c.
-    let a = c .before .before .before .before .before .before .before .args in
+    let a = c .before .before .before .before .before .before .before .before .before .args in
     let l = c .before .before .loop in
-    (l .inv .0, sought-deep (now (a .image)) (a .newest) (a .map) (a .kind) (a .root) (keyOf (a .kind) (now (a .key))) (a .q) (l .left) (omega arith) (l .inv .1) (c .new2 .ensures)))
+    (l .inv .0, sought-deep (now (a .image)) (a .m .newest) (a .m .id) (a .m .kind) (a .root .bits) (keyOf (a .m .kind) (now (a .key))) (a .q) (l .left) (omega arith) (l .inv .1) (c .new2 .ensures)))
 
 locate-meets : {M : Type 1} (t : ℕ) → locate-lts.Closed (
   place-of-reads.Asked,
@@ -143,6 +152,8 @@ locate-meets : {M : Type 1} (t : ℕ) → locate-lts.Closed (
   locate-anew.Post,
   chunk-key-reads.Asked,
   chunk-key-reads.Learnt,
+  metadata-reads.Asked,
+  metadata-reads.Learnt,
   descend-below t,
   descend.Post,
   settle-reads.Asked,
@@ -161,6 +172,8 @@ locate-meets t = locate-lts.spec (
   locate-anew.Post,
   chunk-key-reads.Asked,
   chunk-key-reads.Learnt,
+  metadata-reads.Asked,
+  metadata-reads.Learnt,
   descend-below t,
   descend.Post,
   settle-reads.Asked,
@@ -197,19 +210,21 @@ locate-meets t = locate-lts.spec (
     (λ c. search needs)
     (λ c. (c .before .before .before .before .before .before .before .before .before .before .before .pre .1 .1, c .locate-anew .ensures))
     (λ c κs. search needs)
-    (λ c. rw (c .before .before .chunk-key .ensures) (padded-inside 22 (chunkKey (c .before .before .before .before .before .before .before .before .before .before .before .before .before .args .c))))
-    (λ c. sym (length-take-le _ _ (rw (c .before .before .before .chunk-key .ensures) (padded-inside 22 (chunkKey (c .before .before .before .before .before .before .before .before .before .before .before .before .before .before .args .c))))))
+    (λ c κs. search needs)
+    (λ c. rw (c .before .before .before .chunk-key .ensures) (padded-inside 22 (chunkKey (c .before .before .before .before .before .before .before .before .before .before .before .before .before .before .args .c))))
+    (λ c. sym (length-take-le _ _ (rw (c .before .before .before .before .chunk-key .ensures) (padded-inside 22 (chunkKey (c .before .before .before .before .before .before .before .before .before .before .before .before .before .before .before .args .c))))))
     (λ c. search needs)
-    (λ c κs. (omega (arith, c .before .before .before .before .before .before .before .before .before .before .before .before .before .before .pre .0), (omega (arith, c .before .before .before .before .before .before .before .before .before .before .before .before .before .before .pre .1 .0), c .before .before .before .before .before .before .before .before .before .before .before .before .before .before .pre .1 .1)))
+    (λ c κs. (omega (arith, c .before .before .before .before .before .before .before .before .before .before .before .before .before .before .before .pre .0), (omega (arith, c .before .before .before .before .before .before .before .before .before .before .before .before .before .before .before .pre .1 .0), rw (c .before .before .metadata .ensures) (c .before .before .before .before .before .before .before .before .before .before .before .before .before .before .before .pre .1 .1))))
     (λ c κs.
-    let a = c .before .before .before .before .before .before .before .before .before .before .before .before .before .before .before .before .before .before .args in
-    omega (arith, sought-few (now (a .image)) (a .newest) _ _ _ _ (a .q - 1) (c .before .before .before .descend .result) (c .before .before .before .descend .ensures .1), c .before .before .before .before .before .before .before .before .before .before .before .before .before .before .before .before .before .before .pre .1 .0))
+    let a = c .before .before .before .before .before .before .before .before .before .before .before .before .before .before .before .before .before .before .before .args in
+    omega (arith, sought-few (now (a .image)) _ _ _ _ _ (a .q - 1) (c .before .before .before .descend .result) (c .before .before .before .descend .ensures .1), c .before .before .before .before .before .before .before .before .before .before .before .before .before .before .before .before .before .before .before .pre .1 .0))
     (λ c. search needs)
     (λ c.
-    let a = c .before .before .before .before .before .before .before .before .before .before .before .before .before .before .before .before .before .before .before .before .before .args in
+    let a = c .before .before .before .before .before .before .before .before .before .before .before .before .before .before .before .before .before .before .before .before .before .before .args in
     let d = c .before .before .before .before .before .before .descend in
-    let key = c .before .before .before .before .before .before .before .before .before .before .chunk-key in
-    tells-settled (now (a .image)) (a .newest) (a .q) (a .c) _ (d .result) (c .before .before .before .before .before .before .before .before .before .before .before .before .before .before .before .before .before .if1 .left) (c .before .before .before .before .before .before .before .before .before .before .before .before .before .if3 .left) (c .before .before .before .before .before .before .before .before .before .before .before .before .before .before .before .before .before .before .before .before .before .pre .1 .0) (d .ensures .0) _ (rw (key .ensures) (padded-text 22 (chunkKey (a .c)))) (d .ensures .1) (c .before .before .settle .result) _ (c .before .before .settle .ensures .0) (c .before .before .settle .ensures .1))
+    let e = rw (c .before .before .before .before .before .before .before .before .before .metadata .ensures) at (d .ensures) in
+    let key = c .before .before .before .before .before .before .before .before .before .before .before .chunk-key in
+    tells-settled (now (a .image)) (a .newest) (a .q) (a .c) _ (d .result) (c .before .before .before .before .before .before .before .before .before .before .before .before .before .before .before .before .before .before .if1 .left) (c .before .before .before .before .before .before .before .before .before .before .before .before .before .before .if3 .left) (c .before .before .before .before .before .before .before .before .before .before .before .before .before .before .before .before .before .before .before .before .before .before .pre .1 .0) (e .0) _ (rw (key .ensures) (padded-text 22 (chunkKey (a .c)))) (e .1) (c .before .before .settle .result) _ (c .before .before .settle .ensures .0) (c .before .before .settle .ensures .1))
 
 locate-anew-meets : {M : Type 1} (t : ℕ) → locate-anew-lts.Closed (
   many-words-reads.Asked,

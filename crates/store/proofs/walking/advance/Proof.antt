@@ -10,4 +10,10 @@ returns : tie.Need-returns
 returns c = c .before .advance-with .ensures
 
 pub advance-spec : {M : Type 1} → statement M
-advance-spec = tie.close (tie.spec (λ c κs. search needs) (λ c. search needs) advance-with-requires returns)
+advance-spec =
+    tie.close
+    (tie.spec
+    (λ c κs. search needs)
+    (λ c. search needs)
+    advance-with-requires
+    returns)
