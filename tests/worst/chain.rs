@@ -6,16 +6,7 @@ use crate::build::tree::number_key;
 use crate::model::image::BLOCK;
 
 pub fn chain(size: usize) -> Worst {
-    chained(size, false)
-}
-
-/// The same with chunk header lines of 1,023 bytes.
-pub fn long_lines(size: usize) -> Worst {
-    chained(size, true)
-}
-
-fn chained(size: usize, long_lines: bool) -> Worst {
-    let mut draft = Draft::new(long_lines);
+    let mut draft = Draft::new();
     // The file headers and the oldest take a block each.
     let order: Vec<usize> = (0..size / BLOCK as usize - 3).map(|_| draft.add_chunk()).collect();
     let newest = order.len() - 1;

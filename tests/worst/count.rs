@@ -1,13 +1,11 @@
 //! A reader that counts what a call needs where each chunk is located once: the pages read, the
-//! questions about chunks, and the bytes of those pages. Its pages are judged by the model, where the
-//! metadata has many inner ones the first of them. It keeps what lookups need of the metadata's, so
-//! that it is fast on the worst of images, and counts each reading all the same.
+//! questions about chunks, and the bytes of those pages. Its pages are judged by the model. It keeps
+//! what lookups need of the metadata's, so that it is fast on the worst of images, and counts each
+//! reading all the same.
 
 use std::collections::{HashMap, HashSet};
 use std::rc::Rc;
 
-use super::runs::{self, Runs};
-use super::ways::{first_equal, first_greater, Ways};
 use crate::model::bytes::digits;
 use crate::model::chunk::{stands_at, Chunk};
 use crate::model::image::{Image, Span};
@@ -16,12 +14,9 @@ use crate::model::line::field;
 use crate::model::locate::QUESTIONS;
 use crate::model::map::Map;
 use crate::model::opening::newest;
-use crate::model::page::{place, read_in, Page, DEEPEST};
+use crate::model::page::{place, read_in, Body, Page, DEEPEST};
 use crate::model::position::{Position, EMPTY};
 use crate::model::refusal::{Outcome, NINTH_QUESTION, NO_CHUNK, OUT_OF_PLACE, TOO_DEEP};
-
-/// So many of the metadata's pages are judged both by the model and by runs.
-const BOTH: usize = 50;
 
 /// What a call needs.
 #[derive(Clone, Copy, Debug, Default, PartialEq, Eq)]
@@ -29,6 +24,38 @@ pub struct Work {
     pub pages: u64,
     pub questions: u64,
     pub bytes: u64,
+}
+
+/// What a lookup needs of a page: the keys that are greater than all before them. The first key that
+/// is greater than some key is one of these, and so is the first that is equal to it, if no greater
+/// one comes before.
+enum Ways<'a> {
+    /// Each with the position of the child before it; and the last child's.
+    Inner(Vec<(Key<'a>, u64)>, u64),
+    /// Each with its value.
+    Leaf(Vec<(Key<'a>, Span)>),
+}
+
+impl<'a> Ways<'a> {
+    fn of(page: &Page<'a>) -> Ways<'a> {
+        match &page.body {
+            Body::Inner(children) => {
+                let position = |i: usize| children[i].position;
+                Ways::Inner(risen(page, position), position(children.len() - 1))
+            }
+            Body::Leaf(values) => Ways::Leaf(risen(page, |i| values[i])),
+        }
+    }
+}
+
+fn risen<'a, T>(page: &Page<'a>, with: impl Fn(usize) -> T) -> Vec<(Key<'a>, T)> {
+    let mut keys: Vec<(Key<'a>, T)> = Vec::new();
+    for (i, at) in page.keys.iter().enumerate() {
+        if keys.last().is_none_or(|(last, _)| *last < at.key) {
+            keys.push((at.key, with(i)));
+        }
+    }
+    keys
 }
 
 pub struct Reader<'a> {
@@ -39,7 +66,6 @@ pub struct Reader<'a> {
     located: HashMap<u64, (Chunk, u32)>,
     /// What lookups need of the metadata's pages.
     kept: HashMap<u64, Rc<Ways<'a>>>,
-    runs: Runs,
 }
 
 impl<'a> Reader<'a> {
@@ -47,7 +73,7 @@ impl<'a> Reader<'a> {
         let image = Image::new(lent)?;
         let newest = newest(&image)?;
         let (located, kept) = (HashMap::from([(newest.id, (newest, 0))]), HashMap::new());
-        Ok(Reader { image, newest, work: Work::default(), located, kept, runs: Runs::of(lent) })
+        Ok(Reader { image, newest, work: Work::default(), located, kept })
     }
 
     pub fn metadata(&self) -> Map {
@@ -87,25 +113,11 @@ impl<'a> Reader<'a> {
         if let Some(ways) = self.kept.get(&number).filter(|_| map.id == 0) {
             return Ok((ways.clone(), taken));
         }
-        let ways = Rc::new(self.judged(map, &chunk, &position)?);
+        let ways = Rc::new(Ways::of(&read_in(&self.image, &chunk, map, &position)?));
         if map.id == 0 {
             self.kept.insert(number, ways.clone());
         }
         Ok((ways, taken))
-    }
-
-    /// A page judged by the model; an inner one of the metadata by runs too, later by runs alone.
-    fn judged(&mut self, map: &Map, chunk: &Chunk, position: &Position) -> Outcome<Ways<'a>> {
-        let by_runs = map.id == 0 && position.kind == 1;
-        if by_runs && self.kept.len() >= BOTH {
-            return runs::inner(&self.image, &self.runs, chunk, position);
-        }
-        let ways = read_in(&self.image, chunk, map, position).map(|page| Ways::of(&page));
-        if by_runs {
-            let again = runs::inner(&self.image, &self.runs, chunk, position);
-            assert_eq!(again, ways, "{position:?} by runs");
-        }
-        ways
     }
 
     /// A refusal ends the call, so only what is found is remembered.
@@ -142,8 +154,15 @@ impl<'a> Reader<'a> {
             let (ways, taken) = self.ways(map, number, depth, left)?;
             most = most.max(taken);
             match &*ways {
-                Ways::Inner(keys, last) => number = first_greater(keys, key).unwrap_or(*last),
-                Ways::Leaf(keys) => return Ok((first_equal(keys, key), most)),
+                Ways::Inner(keys, last) => {
+                    let greater = keys.partition_point(|(before, _)| *before <= key);
+                    number = keys.get(greater).map_or(*last, |&(_, position)| position);
+                }
+                Ways::Leaf(keys) => {
+                    let equal = keys.partition_point(|(before, _)| *before < key);
+                    let found = keys.get(equal).filter(|(found, _)| *found == key);
+                    return Ok((found.map(|&(_, value)| value), most));
+                }
             }
             depth += 1;
         }

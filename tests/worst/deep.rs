@@ -1,20 +1,20 @@
-//! Trees of depth 16.
+//! Trees of depth 16: one that is wide, and one whose leaf takes eight open questions.
 
-use super::draft::{Body, Draft};
+use super::draft::{names, Body, Draft};
 use super::{Worst, FORCES_PLAN};
 use crate::build::tree::number_key;
+use crate::family::standard::METADATA_PLAN;
 use crate::model::image::BLOCK;
+use crate::model::locate::QUESTIONS;
 use crate::model::page::DEEPEST;
 
 /// What a chunk takes in the newest: its entry.
 const CHUNK_ROOM: usize = 24;
-/// The inner pages above a leaf.
-const LEVELS: usize = DEEPEST as usize - 1;
 
 /// One key a page and each page in a chunk of its own.
 pub fn deep(size: usize) -> Worst {
     let chunks = size / (BLOCK as usize + CHUNK_ROOM) - 4;
-    let mut draft = Draft::new(false);
+    let mut draft = Draft::new();
     let chunks: Vec<usize> = (0..chunks).map(|_| draft.add_chunk()).collect();
     let newest = draft.add_chunk();
     // Every inner page has two children, so that there is one leaf more than inner pages.
@@ -54,30 +54,30 @@ impl Deep<'_> {
     }
 }
 
-/// Inner pages of very many children that are all the same page: no call may read them all.
-pub fn shared(size: usize) -> Worst {
-    let children = (size - 4 * BLOCK as usize) / LEVELS / (8 + 1 + 8) - 2;
-    let mut draft = Draft::new(false);
+/// Eight questions are open below the lowest of 16 levels, which takes the most stack. The entry of
+/// each chunk is in the one before, and the last has the map's leaf; all else is in the newest.
+pub fn questioned(_size: usize) -> Worst {
+    let mut draft = Draft::new();
+    let chunks: Vec<usize> = (0..QUESTIONS).map(|_| draft.add_chunk()).collect();
     let newest = draft.add_chunk();
-    let leaf = Body::leaf(FORCES_PLAN, &[(number_key(0), Vec::new())]);
-    let mut below = draft.put(newest, &leaf);
-    for level in 1..=LEVELS {
-        // Separators above all keys of the levels below.
-        let first = level * children;
-        let separators: Vec<_> = (1..children).map(|i| number_key((first + i) as i64)).collect();
-        let all = vec![(below, 1); children];
-        below = draft.put(newest, &Body::inner(FORCES_PLAN, &all, &separators));
+    let last = chunks[chunks.len() - 1];
+    let leaf = Body::leaf(FORCES_PLAN, &[(number_key(7), vec![7; 24])]);
+    let lowest = draft.put(last, &leaf);
+    let forces = (1..DEEPEST)
+        .fold(lowest, |below, _| draft.put(newest, &Body::inner(FORCES_PLAN, &[(below, 1)], &[])));
+    let mut children = Vec::new();
+    let mut separators = Vec::new();
+    let mut before = newest;
+    for chunk in chunks {
+        let entry = draft.entry(chunk);
+        separators.extend((before != newest).then(|| entry.0.clone()));
+        children.push((draft.put(before, &Body::leaf(METADATA_PLAN, &[entry])), 1));
+        before = chunk;
     }
-    let root = draft.metadata(newest, &[], below);
-    let image = draft.image(newest, root);
-    // The walk comes from the last entry under the root's first child.
-    let mut places = vec![children as u64 - 1; LEVELS];
-    places[0] = 0;
-    places.push(0);
-    let last = (children - 1) as u64;
-    let key = ((LEVELS + 1) * children) as i64;
-    Worst {
-        key: key.to_be_bytes().to_vec(),
-        ..Worst::forces(image, 0, last, &places, "refused 12".to_string())
-    }
+    let names = names(forces);
+    separators.push(names[0].0.clone());
+    children.push((draft.put(newest, &Body::leaf(METADATA_PLAN, &names)), names.len() as u64));
+    let root = draft.put(newest, &Body::inner(METADATA_PLAN, &children, &separators));
+    let examined = format!("report 1 {DEEPEST} {DEEPEST}");
+    Worst::forces(draft.image(newest, root), 7, 0, &[0; DEEPEST as usize], examined)
 }

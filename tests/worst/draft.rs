@@ -1,24 +1,19 @@
 //! An image written straight into its bytes: a plan of hundreds of thousands of pages would be slow.
 
-use std::ops::Range;
-
 use crate::build::line::{LinePlan, Sum};
 use crate::build::page::{smallest_code, variable};
 use crate::build::tree::{Entries, MapPlan};
 use crate::family::standard::METADATA_PLAN;
 use crate::model::image::BLOCK;
-use crate::model::line::{CHUNK_HEADER, FOOTER};
+use crate::model::line::FOOTER;
 use crate::model::position::{check_value, Position};
 
-/// Ids of four digits, so that the entries of chunks sort as their numbers do. The high byte is a
-/// letter's, which `full` needs in check values.
+/// Ids of four digits, so that the entries of chunks sort as their numbers do.
 pub const FIRST_ID: u64 = 0x4000;
-/// The newline's place in a chunk header of the known fields alone.
+/// The newline's place in a chunk header.
 const NEWLINE: u64 = 103;
-/// The first field of a line that reads as text keys: below every key that is asked for, without the
-/// first byte, which is a length. The newline comes after so many bytes.
-const KEY_FIELD: &str = "pages";
-const KEY_NEWLINE: u64 = 1 + KEY_FIELD.as_bytes()[0] as u64;
+/// The bytes of an entry with an empty text key and an empty value.
+pub const EMPTY_ENTRY: usize = 2;
 
 /// What stands in a page after its type byte.
 pub struct Body {
@@ -31,10 +26,16 @@ pub struct Body {
 impl Body {
     /// A leaf of entries, keys as a caller gives them.
     pub fn leaf(map: MapPlan, entries: &[(Vec<u8>, Vec<u8>)]) -> Body {
-        let mut bytes = Vec::new();
+        Body::wide_leaf(map, 0, entries)
+    }
+
+    /// The same with so many entries of an empty text key and an empty value before them.
+    pub fn wide_leaf(map: MapPlan, empty: usize, entries: &[(Vec<u8>, Vec<u8>)]) -> Body {
+        let mut bytes = vec![0; empty];
         entries.iter().for_each(|(key, _)| push_key(&mut bytes, map.kind, key));
+        bytes.resize(bytes.len() + empty, 0);
         entries.iter().for_each(|(_, value)| push_text(&mut bytes, value));
-        Body { map: map.id, type_bit: 0, n: entries.len() as u64, bytes }
+        Body { map: map.id, type_bit: 0, n: (empty + entries.len()) as u64, bytes }
     }
 
     /// An inner page of positions with their counts, and the separators between them.
@@ -47,7 +48,7 @@ impl Body {
     }
 }
 
-pub fn push_key(bytes: &mut Vec<u8>, kind: u64, key: &[u8]) {
+fn push_key(bytes: &mut Vec<u8>, kind: u64, key: &[u8]) {
     if kind == 0 {
         bytes.extend(key);
     } else {
@@ -56,7 +57,7 @@ pub fn push_key(bytes: &mut Vec<u8>, kind: u64, key: &[u8]) {
 }
 
 /// Bytes after their length.
-pub fn push_text(bytes: &mut Vec<u8>, text: &[u8]) {
+fn push_text(bytes: &mut Vec<u8>, text: &[u8]) {
     bytes.extend(variable(text.len() as u64));
     bytes.extend(text);
 }
@@ -71,60 +72,38 @@ struct Chunk {
     free: u64,
 }
 
-#[derive(Default)]
 pub struct Draft {
     bytes: Vec<u8>,
     chunks: Vec<Chunk>,
-    /// Whether chunk header lines are filled with unknown names.
-    long_lines: bool,
-    /// Whether the lines of chunks read as text keys.
-    key_lines: bool,
 }
 
 impl Draft {
-    pub fn new(long_lines: bool) -> Draft {
-        Draft { bytes: vec![0; 2 * BLOCK as usize], long_lines, ..Draft::default() }
-    }
-
-    pub fn with_key_lines() -> Draft {
-        Draft { key_lines: true, ..Draft::new(false) }
+    pub fn new() -> Draft {
+        Draft { bytes: vec![0; 2 * BLOCK as usize], chunks: Vec::new() }
     }
 
     /// Adds a chunk of one block at the image's end, where it can grow: its number.
     pub fn add_chunk(&mut self) -> usize {
-        let (number, block) = (self.chunks.len(), self.blocks());
-        let (id, free) = (FIRST_ID + number as u64, self.newline() + 1);
-        self.chunks.push(Chunk { id, version: id, block, len: 1, next: block + 1, free });
+        let block = self.blocks();
         self.bytes.resize(self.bytes.len() + BLOCK as usize, 0);
-        number
+        self.add_at(block)
     }
 
     /// Adds a chunk of one block within another, at the block with that number there.
     pub fn add_within(&mut self, chunk: usize, block: u64) -> usize {
-        self.add_across(chunk, block..block + 1)
+        self.add_at(self.chunks[chunk].block + block)
     }
 
-    /// Adds a chunk of these blocks of another.
-    pub fn add_across(&mut self, chunk: usize, blocks: Range<u64>) -> usize {
-        let (number, block) = (self.chunks.len(), self.chunks[chunk].block + blocks.start);
-        let (id, free) = (FIRST_ID + number as u64, self.newline() + 1);
-        let len = blocks.end - blocks.start;
-        self.chunks.push(Chunk { id, version: id, block, len, next: block + len, free });
+    fn add_at(&mut self, block: u64) -> usize {
+        let number = self.chunks.len();
+        let id = FIRST_ID + number as u64;
+        let free = NEWLINE + 1;
+        self.chunks.push(Chunk { id, version: id, block, len: 1, next: block + 1, free });
         number
     }
 
     fn blocks(&self) -> u64 {
         self.bytes.len() as u64 / BLOCK
-    }
-
-    fn newline(&self) -> u64 {
-        if self.long_lines {
-            CHUNK_HEADER - 1
-        } else if self.key_lines {
-            KEY_NEWLINE
-        } else {
-            NEWLINE
-        }
     }
 
     /// The key of a chunk's entry and the shortest line that serves as its value.
@@ -157,17 +136,6 @@ impl Draft {
     /// Writes bytes where there is something already.
     pub fn write_over(&mut self, chunk: usize, offset: u64, bytes: &[u8]) {
         self.write(self.chunks[chunk].block * BLOCK + offset, bytes);
-    }
-
-    /// The bytes of a chunk from an offset to another.
-    pub fn written(&self, chunk: usize, from: u64, to: u64) -> &[u8] {
-        let start = self.chunks[chunk].block * BLOCK;
-        &self.bytes[(start + from) as usize..(start + to) as usize]
-    }
-
-    /// Where the next page goes.
-    pub fn free(&self, chunk: usize) -> u64 {
-        self.chunks[chunk].free
     }
 
     /// Leaves room before the next page.
@@ -220,52 +188,27 @@ impl Draft {
         let Chunk { id, version, block, .. } = self.chunks[named];
         let fixed = [("H", 2), ("blockSize", 0x1000), ("format", 1)];
         let names = [("block", block), ("chunk", id), ("version", version)];
-        let mut line = LinePlan::new(&[&fixed[..], &names[..]].concat(), Sum::Xor(0));
-        if self.long_lines {
-            let room = BLOCK as usize - 1 - line.text().len();
-            line.fields.splice(0..0, fillers(room));
-        }
+        let line = LinePlan::new(&[&fixed[..], &names[..]].concat(), Sum::Xor(0));
         self.write(0, &line.bytes().0);
         self.write(BLOCK, &line.bytes().0);
         self.bytes
     }
 
     /// A chunk's header and footer lines.
-    pub fn write_lines(&mut self, number: usize, root: u64) {
+    fn write_lines(&mut self, number: usize, root: u64) {
         let Chunk { id, version, block, len, next, .. } = self.chunks[number];
         let named = [("chunk", id), ("block", block), ("version", version)];
         let rest = [("len", len), ("next", next), ("pages", 1), ("root", root)];
         let mut header = LinePlan::new(&[&named[..], &rest[..]].concat(), Sum::None);
-        if self.long_lines {
-            let room = CHUNK_HEADER as usize - 1 - header.text().len();
-            header.fields.splice(0..0, fillers(room));
-        }
-        header.newline_from = self.newline() as usize;
+        header.newline_from = NEWLINE as usize;
         let footer = LinePlan::new(&named, Sum::Xor(0));
-        let [header, footer] = [header, footer].map(|line| self.line_bytes(line));
-        self.write(block * BLOCK, &header);
-        self.write((block + len) * BLOCK - FOOTER, &footer);
-    }
-
-    fn line_bytes(&self, line: LinePlan) -> Vec<u8> {
-        if self.key_lines {
-            two_keys(line)
-        } else {
-            line.bytes().0
-        }
+        self.write(block * BLOCK, &header.bytes().0);
+        self.write((block + len) * BLOCK - FOOTER, &footer.bytes().0);
     }
 
     fn write(&mut self, at: u64, bytes: &[u8]) {
         self.bytes[at as usize..at as usize + bytes.len()].copy_from_slice(bytes);
     }
-}
-
-/// A line's bytes as two text keys: its first byte is the length of one, the newline of the next.
-fn two_keys(mut line: LinePlan) -> Vec<u8> {
-    line.remove(KEY_FIELD);
-    line.fields.insert(0, (KEY_FIELD.to_string(), "1".to_string()));
-    line.newline_from = KEY_NEWLINE as usize;
-    [line.bytes().0, vec![b' '; b'\n' as usize]].concat()
 }
 
 /// The position of a page, by its chunk's number.
@@ -278,24 +221,4 @@ pub fn position_of(chunk: usize, offset: u64, code: u64, type_bit: u64) -> u64 {
 pub fn names(root: u64) -> Entries {
     let root = format!("{root:x}").into_bytes();
     vec![(b"name.forces".to_vec(), b"1".to_vec()), (b"root.1".to_vec(), root)]
-}
-
-/// As many fields of short unknown names as fit in front of others in so many bytes.
-pub fn fillers(room: usize) -> Vec<(String, String)> {
-    let mut left = room;
-    let fits = |name: &String| {
-        // The name, a colon, a digit and a comma.
-        let more = left.checked_sub(name.len() + 3);
-        left = more.unwrap_or(0);
-        more.is_some()
-    };
-    unknown_names().take_while(fits).map(|name| (name, "0".to_string())).collect()
-}
-
-/// Different names, the shortest first; none is one that a reader knows.
-fn unknown_names() -> impl Iterator<Item = String> {
-    let letters = || ('a'..='z').chain('A'..='Z').map(String::from);
-    let two = move || letters().flat_map(move |a| letters().map(move |b| a.clone() + &b));
-    let three = letters().flat_map(move |a| two().map(move |b| a.clone() + &b));
-    letters().chain(two()).chain(three).filter(|name| name != "H" && name != "len")
 }

@@ -1,7 +1,7 @@
 //! Metadata whose paths lie in chunks that are themselves to be located: each question opens 15
 //! others, eight deep, and no chunk is needed twice in a row.
 
-use super::draft::{fillers, names, Body, Draft};
+use super::draft::{names, Body, Draft};
 use super::{Worst, FORCES_PLAN};
 use crate::build::line::{LinePlan, Sum};
 use crate::build::tree::{number_key, Entries};
@@ -14,61 +14,38 @@ use crate::model::page::{DEEPEST, LONGEST_VALUE};
 const LAYERS: usize = QUESTIONS as usize;
 /// The pages of a path below the metadata's root.
 const PATH: usize = DEEPEST as usize - 1;
-/// An empty separator with its child and recorded count.
-const EMPTY_SEPARATOR: usize = 8 + 1 + 1;
-
-#[derive(Clone, Copy, Default)]
-struct Options {
-    /// How many empty separators the metadata's root begins with.
-    empty: usize,
-    /// Chunk header lines of 1,023 bytes, file header lines of 4,095.
-    long_lines: bool,
-    /// The metadata's line of each chunk is as long as a value may be.
-    long_values: bool,
-    /// Opening goes through all chunks too.
-    chained: bool,
-}
 
 pub fn nested(size: usize) -> Worst {
-    Nested::new(size, Options::default()).worst()
+    Nested::new(size, false).worst()
 }
 
-/// No name may occur twice in a line, so that a reader compares the names of long ones.
+/// The metadata's line of each chunk is as long as a value may be, and all its names are short: no
+/// name may occur twice in a line, so a reader compares them.
 pub fn long_lines(size: usize) -> Worst {
-    Nested::new(size, Options { long_lines: true, chained: true, ..Options::default() }).worst()
-}
-
-pub fn long_values(size: usize) -> Worst {
-    Nested::new(size, Options { long_values: true, ..Options::default() }).worst()
-}
-
-/// Half of the image is the metadata's root, which each question reads.
-pub fn wide_inner(size: usize) -> Worst {
-    let empty = size / 2 / EMPTY_SEPARATOR;
-    Nested::new(size, Options { empty, ..Options::default() }).worst()
+    Nested::new(size, true).worst()
 }
 
 struct Nested {
     draft: Draft,
-    options: Options,
+    long_lines: bool,
     /// The numbers of the chunks of each layer; layer 0 is the newest chunk alone.
     layers: Vec<Vec<usize>>,
 }
 
 impl Nested {
-    fn new(size: usize, options: Options) -> Nested {
-        let mut draft = Draft::new(options.long_lines);
+    fn new(size: usize, long_lines: bool) -> Nested {
+        let mut draft = Draft::new();
         let mut layers = vec![Vec::new()];
-        for width in widths(chunks_in(size, options)) {
+        for width in widths(chunks_in(size, long_lines)) {
             layers.push((0..width).map(|_| draft.add_chunk()).collect());
         }
         layers[0].push(draft.add_chunk());
-        Nested { draft, options, layers }
+        Nested { draft, long_lines, layers }
     }
 
     fn worst(mut self) -> Worst {
         let forces = self.forces();
-        let mut separators: Vec<Vec<u8>> = vec![Vec::new(); self.options.empty];
+        let mut separators: Vec<Vec<u8>> = Vec::new();
         let mut paths: Vec<(u64, u64)> = Vec::new();
         for layer in 1..=LAYERS {
             for number in 0..self.layers[layer].len() {
@@ -82,20 +59,15 @@ impl Nested {
         let names = names(forces);
         separators.push(names[0].0.clone());
         paths.push((self.path(LAYERS, 0, names), 2));
-        let children = [vec![paths[0]; self.options.empty], paths].concat();
         let newest = self.layers[0][0];
-        let root = self.draft.put(newest, &Body::inner(METADATA_PLAN, &children, &separators));
-        let order: Vec<usize> = (0..=newest).collect();
-        let image = match self.options.chained {
-            true => self.draft.chained(&order, root),
-            false => self.draft.image(newest, root),
-        };
+        let root = self.draft.put(newest, &Body::inner(METADATA_PLAN, &paths, &separators));
+        let image = self.draft.image(newest, root);
         Worst::forces(image, 7, 0, &[0; PATH + 1], format!("report 1 {DEEPEST} {DEEPEST}"))
     }
 
     fn entry(&self, chunk: usize) -> (Vec<u8>, Vec<u8>) {
         let (key, line) = self.draft.entry(chunk);
-        if !self.options.long_values {
+        if !self.long_lines {
             return (key, line);
         }
         let mut long = LinePlan::new(&[], Sum::None);
@@ -149,13 +121,33 @@ fn widths(chunks: usize) -> [usize; LAYERS] {
 }
 
 /// How many chunks of one block fit in the image beside the newest.
-fn chunks_in(size: usize, options: Options) -> usize {
+fn chunks_in(size: usize, long_lines: bool) -> usize {
     let blocks = size / BLOCK as usize;
     let fits = |chunks: &usize| {
-        let root = (chunks + 1) * (8 + 1 + 11) + options.empty * EMPTY_SEPARATOR;
+        let root = (chunks + 1) * (8 + 1 + 11);
         let paths = widths(*chunks)[0] * (PATH * 18 + 20);
-        let values = if options.long_values { chunks * (LONGEST_VALUE as usize + 32) } else { 0 };
+        let values = if long_lines { chunks * (LONGEST_VALUE as usize + 32) } else { 0 };
         chunks + (root + paths + values).div_ceil(BLOCK as usize) + 5 <= blocks
     };
     (1..blocks).rev().find(fits).expect("the image has room for a chunk")
+}
+
+/// As many fields of short unknown names as fit in front of others in so many bytes.
+fn fillers(room: usize) -> Vec<(String, String)> {
+    let mut left = room;
+    let fits = |name: &String| {
+        // The name, a colon, a digit and a comma.
+        let more = left.checked_sub(name.len() + 3);
+        left = more.unwrap_or(0);
+        more.is_some()
+    };
+    unknown_names().take_while(fits).map(|name| (name, "0".to_string())).collect()
+}
+
+/// Different names, the shortest first; none is one that a reader knows.
+fn unknown_names() -> impl Iterator<Item = String> {
+    let letters = || ('a'..='z').chain('A'..='Z').map(String::from);
+    let two = move || letters().flat_map(move |a| letters().map(move |b| a.clone() + &b));
+    let three = letters().flat_map(move |a| two().map(move |b| a.clone() + &b));
+    letters().chain(two()).chain(three).filter(|name| name != "H" && name != "len")
 }

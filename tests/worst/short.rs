@@ -1,4 +1,4 @@
-//! The worst images in the short run: small enough that they take seconds in all.
+//! The small worst images in the short run: they take seconds in all.
 
 use std::io;
 use std::time::Duration;
@@ -27,7 +27,7 @@ struct Run {
 pub fn run() -> io::Result<bool> {
     let mut run = Run::default();
     for named in &ALL {
-        let worst = (named.maker)(named.short * KILOBYTE);
+        let worst = named.small();
         run.images += 1;
         for question in worst.questions() {
             if !run.question(named, &worst, &question)? {

@@ -5,80 +5,51 @@ use std::time::Duration;
 
 use super::ask::ask;
 use super::asked::{asked, Effort};
-use super::{Named, Worst, ALL, MEGABYTE};
+use super::{Named, Worst, MEGABYTE};
 use crate::model::image::BLOCK;
 use crate::model::page::DEEPEST;
 use crate::subject::{Call, Question};
 
+/// The sizes of an image, in MB.
+const SIZES: [usize; 3] = [1, 4, 16];
 const EFFORT: Effort = Effort { times: 3, limit: Duration::from_secs(20) };
-/// The size of an image, in MB, for which a second is promised.
-const LARGEST: usize = 16;
-/// Where another call about the same image took longer.
-const SMALL_EFFORT: Effort = Effort { times: 1, limit: Duration::from_secs(2) };
 
-pub fn print(all: &[&Named]) -> io::Result<()> {
+pub fn print(all: &[Named]) -> io::Result<()> {
     println!(
-        "{:<16} {:>9} {:<8} {:>9} {:>9} {:>9} {:>9} {:>9}  answer",
+        "{:<13} {:>8} {:<7} {:>9} {:>7} {:>8} {:>9} {:>9}  answer",
         "image", "bytes", "call", "questions", "pages", "bound", "MB read", "ms"
     );
     for named in all {
-        for megabytes in named.sizes {
+        for megabytes in SIZES {
             let worst = (named.maker)(megabytes * MEGABYTE);
-            let mut effort = EFFORT;
             for question in worst.questions() {
-                if !row(named.name, &worst, &question, effort)? {
-                    effort = SMALL_EFFORT;
-                }
+                row(named.name, &worst, &question)?;
             }
         }
     }
     Ok(())
 }
 
-/// Prints the processor time of each call alone, at the size for which a second is promised.
-pub fn times() -> io::Result<()> {
-    let mut slowest = (0.0, String::new());
-    for named in &ALL {
-        let worst = (named.maker)(LARGEST * MEGABYTE);
-        print!("{:<16}", named.name);
-        for question in worst.questions() {
-            let asked = asked(&worst.image, &question, EFFORT)?;
-            let seconds = asked.map_or(f64::INFINITY, |asked| asked.seconds);
-            print!(" {} {:.0} ms", question.call().name(), seconds * 1e3);
-            if seconds > slowest.0 {
-                slowest = (seconds, format!("{} {}", named.name, question.call().name()));
-            }
-        }
-        println!();
-        io::stdout().flush()?;
-    }
-    println!("the slowest: {} {:.0} ms", slowest.1, slowest.0 * 1e3);
-    Ok(())
-}
-
-/// Prints a row; false where the call took longer than the limit.
-fn row(name: &str, worst: &Worst, question: &Question, effort: Effort) -> io::Result<bool> {
+fn row(name: &str, worst: &Worst, question: &Question) -> io::Result<()> {
     let (needed, work) = ask(&worst.image, question);
     let call = question.call();
-    let asked = asked(&worst.image, question, effort)?;
+    let asked = asked(&worst.image, question, EFFORT)?;
     let time = match &asked {
         Some(asked) => format!("{:.1}", asked.seconds * 1e3),
-        None => format!("> {} s", effort.limit.as_secs()),
+        None => format!("over {} s", EFFORT.limit.as_secs()),
     };
-    let differs = asked.as_ref().is_some_and(|asked| asked.answer != needed.to_string());
+    let differs = asked.is_some_and(|asked| asked.answer != needed.to_string());
     let agrees = if differs { " (DIFFERS)" } else { "" };
     println!(
-        "{name:<16} {:>9} {:<8} {:>9} {:>9} {:>9} {:>9.1} {time:>9}  {}{agrees}",
+        "{name:<13} {:>8} {:<7} {:>9} {:>7} {:>8} {:>9.1} {time:>9}  {needed}{agrees}",
         worst.image.len(),
         call.name(),
         work.questions,
         work.pages,
         bound(call, &worst.image),
         work.bytes as f64 / 1e6,
-        needed
     );
-    io::stdout().flush()?;
-    Ok(asked.is_some())
+    io::stdout().flush()
 }
 
 /// How many pages a call may read at most: 16 for the map's name or root, 16 for each chunk, which is
