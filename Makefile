@@ -25,7 +25,7 @@ ifeq ($(origin LIB), file)
 .PHONY: target/staticlib/libmvstore.a
 endif
 
-# The sample is a store that H2 wrote.
+# H2 wrote the sample; its sums were then rewritten by document 01's rules, and H2 itself rejects it.
 list:
 	rt check listing
 	target/bin/listing < tests/stores/bridge.base.mv

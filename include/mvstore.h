@@ -15,12 +15,15 @@
  * 2. No state. Nothing is allocated, kept or global; there is no handle and
  *    nothing to close. Each call opens the image itself, so what it answers
  *    depends on its arguments alone, and calls may run at the same time in
- *    several threads, on the same image too. A call uses less than 448 KiB
- *    of stack and no heap: a thread that is made with less must ask for it.
+ *    several threads, on the same image too. A call uses less than 124 KiB
+ *    of stack and no heap, so a thread that is made with 128 KiB can make it.
+ *    Every call ends, but an image that was made for it can hold one up for
+ *    minutes: who takes files from strangers asks under a time limit.
  *
  * 3. Answers come back by value. `refusal` is 0 where there is an answer; then
  *    the other members hold it. Otherwise `refusal` is one of the numbers below
- *    and every other member is 0.
+ *    and every other member is 0, but for a step's `walk`, which keeps its
+ *    places and records the refusal.
  *
  * 4. Places are byte offsets from the image's first byte. A place and a length
  *    stay valid as long as the image itself: `image + answer.at` is the value.
@@ -86,7 +89,9 @@ extern "C" {
 #define MVSTORE_NO_SUCH_NAME 13
 /* The metadata's id or root is not a number as it must be. */
 #define MVSTORE_NOT_A_NUMBER 14
-/* The index is not below the number of entries. */
+/* The index is not below the root's count, or what is left of it on the way
+ * down not below that of a page there. An inner page's count is the sum of the
+ * counts that it records, whatever entries there are. */
 #define MVSTORE_BAD_INDEX 15
 /* The copy area is smaller than the value. */
 #define MVSTORE_AREA_TOO_SMALL 16
@@ -203,7 +208,8 @@ mvstore_count_of mvstore_count(const uint8_t *image, size_t image_len,
 
 /* mvstore_next: one step of the walk of a map, entries from left to right. Done
  * and refusals are recorded in the state and given again at each later step,
- * whatever else is passed. Refuses with 1 to 12 and 14. */
+ * whatever else is passed. Refuses with 1 to 12 and 14, and with any number of
+ * 1 to 16 that the state records: 13, 15 and 16 too, which no step records. */
 mvstore_step mvstore_next(const uint8_t *image, size_t image_len,
                           uint64_t map, uint64_t kind, mvstore_walk walk);
 
@@ -234,7 +240,7 @@ static inline const char *mvstore_refusal_text(uint32_t refusal)
         "the map is unsound",
         "there is no map of this name",
         "the metadata's id or root is not a number",
-        "the index is not below the number of entries",
+        "the index is not below the recorded count",
         "the copy area is smaller than the value",
     };
     return refusal < sizeof text / sizeof *text ? text[refusal] : "an unknown refusal";

@@ -1,12 +1,13 @@
 /* stack.c - how much stack each export takes.
  *
- *   stack LIMIT STORE...
+ *   stack LIMIT IMAGE...
  *
- * An export answers all questions in a thread of its own, over a painted stack:
- * every entry of map `forces` and of the metadata of each store, and every map
- * of the small store, whose questions nest deepest. The use is how far below
+ * An export answers all questions in a thread that is made with 128 KiB of
+ * stack, which is painted before: questions about seven maps of each image, as
+ * either kind, and about every map of the small store. The use is how far below
  * the thread's first frame the paint is gone; `nothing` shows what of it is the
- * thread's own. The exit status is 1 if a use is above LIMIT bytes.
+ * thread's own. The exit status is 1 if a use is above LIMIT bytes. What takes
+ * more than the thread has faults.
  */
 #define _GNU_SOURCE
 #include <pthread.h>
@@ -19,8 +20,9 @@
 #include "number.h"
 #include "small.h"
 
-#define ROOM ((size_t)8 << 20)
+#define ROOM ((size_t)131072)
 #define PAINT 0xa5
+#define ENTRIES 8 /* of a map that are asked for, at most */
 
 typedef struct question {
     lent image;
@@ -29,6 +31,7 @@ typedef struct question {
     uint64_t index;
     uint8_t key[1024];
     size_t len;
+    int first; /* about this map: those that ask for no entry are asked once */
 } question;
 
 typedef struct list {
@@ -45,7 +48,8 @@ static void ask_nothing(const question *q)
 
 static void ask_newest(const question *q)
 {
-    sink = mvstore_newest(q->image.bytes, q->image.len).version;
+    if (q->first)
+        sink = mvstore_newest(q->image.bytes, q->image.len).version;
 }
 
 static void ask_lookup(const question *q)
@@ -67,7 +71,8 @@ static void ask_index(const question *q)
 
 static void ask_count(const question *q)
 {
-    sink = mvstore_count(q->image.bytes, q->image.len, q->map, q->kind).count;
+    if (q->first)
+        sink = mvstore_count(q->image.bytes, q->image.len, q->map, q->kind).count;
 }
 
 static void ask_next(const question *q)
@@ -79,13 +84,20 @@ static void ask_next(const question *q)
 
 static void ask_examine(const question *q)
 {
-    sink = mvstore_examine(q->image.bytes, q->image.len, q->map, q->kind).entries;
+    if (q->first)
+        sink = mvstore_examine(q->image.bytes, q->image.len, q->map, q->kind).entries;
 }
 
+/* A name of the stores and of the family, one of the small store, and one as long as may be. */
 static void ask_map(const question *q)
 {
+    static uint8_t longest[1000];
+    if (!q->first)
+        return;
+    memset(longest, 'x', sizeof longest);
     sink = mvstore_map(q->image.bytes, q->image.len, (const uint8_t *)"forces", 6).id;
     sink = mvstore_map(q->image.bytes, q->image.len, (const uint8_t *)"6", 1).id;
+    sink = mvstore_map(q->image.bytes, q->image.len, longest, sizeof longest).id;
 }
 
 static void add(list *l, question q)
@@ -96,34 +108,33 @@ static void add(list *l, question q)
     l->questions[l->count++] = q;
 }
 
-static void add_entries(list *l, lent image, uint64_t map, uint64_t kind)
+/* Entries from the first to the last, and a key as long as may be. */
+static void add_map(list *l, lent image, uint64_t map, uint64_t kind)
 {
-    mvstore_count_of c = mvstore_count(image.bytes, image.len, map, kind);
-    for (uint64_t i = 0; i < c.count; i++) {
-        mvstore_entry e = mvstore_index(image.bytes, image.len, map, kind, i);
-        question q = {.image = image, .map = map, .kind = kind, .index = i};
+    question q = {.image = image, .map = map, .kind = kind, .first = 1};
+    uint64_t count = mvstore_count(image.bytes, image.len, map, kind).count;
+    uint64_t step = count / ENTRIES + 1;
+    memset(q.key, '~', sizeof q.key);
+    q.len = kind == MVSTORE_NUMBER ? 8 : sizeof q.key;
+    add(l, q);
+    q.first = 0;
+    for (q.index = 0; q.index < count; q.index += step) {
+        mvstore_entry e = mvstore_index(image.bytes, image.len, map, kind, q.index);
         number_key(e.number, q.key);
-        q.len = kind == MVSTORE_NUMBER ? 8 : (size_t)e.key_len;
-        if (kind == MVSTORE_TEXT)
+        if (kind == MVSTORE_TEXT) {
+            q.len = (size_t)e.key_len;
             memcpy(q.key, image.bytes + e.key_at, q.len);
+        }
         add(l, q);
     }
 }
 
-static void add_store(list *l, lent image)
+/* The maps with these ids, as both kinds; the metadata as text, and a chunk looked up in it. */
+static void add_image(list *l, lent image, uint64_t last)
 {
-    mvstore_id forces = mvstore_map(image.bytes, image.len, (const uint8_t *)"forces", 6);
-    add_entries(l, image, forces.id, MVSTORE_NUMBER);
-    add_entries(l, image, 0, MVSTORE_TEXT);
-}
-
-static void add_small(list *l, lent image)
-{
-    for (uint64_t map = 0; map <= 14; map++)
-        for (uint64_t kind = map == 0; kind <= 1; kind++) {
-            add_entries(l, image, map, kind);
-            add(l, (question){.image = image, .map = map, .kind = kind, .len = kind == 0 ? 8 : 0});
-        }
+    for (uint64_t map = 0; map <= last; map++)
+        for (uint64_t kind = map == 0; kind <= 1; kind++)
+            add_map(l, image, map, kind);
     add(l, (question){.image = image, .kind = MVSTORE_TEXT, .key = "chunk.2", .len = 7});
 }
 
@@ -174,7 +185,7 @@ static int report(const list *l, size_t limit)
         {"map", ask_map},         {"next", ask_next},     {"examine", ask_examine},
     };
     int above = 0;
-    printf("stack: %zu questions", l->count);
+    printf("%zu questions", l->count);
     for (size_t i = 0; i < sizeof exports / sizeof *exports; i++) {
         run r = {exports[i].ask, l, NULL};
         size_t use = use_of(&r);
@@ -189,10 +200,10 @@ int main(int argc, char **argv)
 {
     list l = {NULL, 0};
     if (argc < 2)
-        return fprintf(stderr, "usage: stack LIMIT STORE...\n"), 2;
-    add_small(&l, small_store());
+        return fprintf(stderr, "usage: stack LIMIT IMAGE...\n"), 2;
+    add_image(&l, small_store(), 14);
     for (int i = 2; i < argc; i++)
-        add_store(&l, lent_file(argv[i]));
+        add_image(&l, lent_file(argv[i]), 6);
     int above = report(&l, (size_t)strtoull(argv[1], NULL, 10));
     free(l.questions);
     return above;
