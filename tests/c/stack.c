@@ -6,8 +6,8 @@
  * stack, which is painted before: questions about seven maps of each image, as
  * either kind, and about every map of the small store. The use is how far below
  * the thread's first frame the paint is gone; `nothing` shows what of it is the
- * thread's own. The exit status is 1 if a use is above LIMIT bytes. What takes
- * more than the thread has faults.
+ * thread's own. The exit status is 1 if a use is not below LIMIT bytes. What
+ * takes more than the thread has faults.
  */
 #define _GNU_SOURCE
 #include <pthread.h>
@@ -23,6 +23,7 @@
 #define ROOM ((size_t)131072)
 #define PAINT 0xa5
 #define ENTRIES 8 /* of a map that are asked for, at most */
+#define STEPS 64  /* of the walk of a map, at most */
 
 typedef struct question {
     lent image;
@@ -77,9 +78,10 @@ static void ask_count(const question *q)
 
 static void ask_next(const question *q)
 {
-    mvstore_walk fresh = {0};
-    mvstore_step s = mvstore_next(q->image.bytes, q->image.len, q->map, q->kind, fresh);
-    sink = mvstore_next(q->image.bytes, q->image.len, q->map, q->kind, s.walk).at;
+    mvstore_walk walk = {0};
+    for (int i = 0; q->first && i < STEPS && walk.last == 0; i++)
+        walk = mvstore_next(q->image.bytes, q->image.len, q->map, q->kind, walk).walk;
+    sink = walk.depth;
 }
 
 static void ask_examine(const question *q)
@@ -190,7 +192,7 @@ static int report(const list *l, size_t limit)
         run r = {exports[i].ask, l, NULL};
         size_t use = use_of(&r);
         printf(", %s %zu", exports[i].name, use);
-        above |= use > limit;
+        above |= use >= limit;
     }
     printf(" bytes\n");
     return above;
