@@ -23,7 +23,7 @@
  * 3. Answers come back by value. `refusal` is 0 where there is an answer; then
  *    the other members hold it. Otherwise `refusal` is one of the numbers below
  *    and every other member is 0, but for a step's `walk`, which keeps its
- *    places and records the refusal.
+ *    places and depth and records the refusal.
  *
  * 4. Places are byte offsets from the image's first byte. A place and a length
  *    stay valid as long as the image itself: `image + answer.at` is the value.
