@@ -1,12 +1,12 @@
 // Questions about lines.
-use super::input;
+use super::MOST_BYTES;
 use super::output;
 use line::Line;
 
 // `line BYTES`: the length of the line that the area begins with, and the place of the newline.
 fn of_area(question: &[u8]) {
-    let mut area = [0u8; input::MOST_BYTES];
-    let n = input::bytes(question, 1, &mut area);
+    let mut area = [0u8; MOST_BYTES];
+    let n = script::bytes(question, 1, &mut area);
     let found = line::line_of(&area[..n]);
     match found {
         Line::At { len, newline } => {
@@ -20,8 +20,8 @@ fn of_area(question: &[u8]) {
 
 // `fields BYTES`: what the line says of each known name.
 fn fields(question: &[u8]) {
-    let mut area = [0u8; input::MOST_BYTES];
-    let n = input::bytes(question, 1, &mut area);
+    let mut area = [0u8; MOST_BYTES];
+    let n = script::bytes(question, 1, &mut area);
     let f = line::read_fields(&area[..n]);
     if f.good {
         let given = f.given;
@@ -34,18 +34,18 @@ fn fields(question: &[u8]) {
 
 // `right BYTES`: whether the line ends with a right `fletcher`.
 fn right(question: &[u8]) {
-    let mut area = [0u8; input::MOST_BYTES];
-    let n = input::bytes(question, 1, &mut area);
+    let mut area = [0u8; MOST_BYTES];
+    let n = script::bytes(question, 1, &mut area);
     output::yes(line::right_sum(&area[..n]));
 }
 
 // Whether the question is one of these; then it is answered.
 pub fn answered(question: &[u8]) -> bool {
-    if input::is(question, b"line") {
+    if script::is(question, b"line") {
         of_area(question);
-    } else if input::is(question, b"fields") {
+    } else if script::is(question, b"fields") {
         fields(question);
-    } else if input::is(question, b"right") {
+    } else if script::is(question, b"right") {
         right(question);
     } else {
         return false;

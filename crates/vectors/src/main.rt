@@ -3,12 +3,14 @@
 //
 // A question is a line: a name and its arguments, with one space before each. Byte strings are two
 // hex digits a byte, `-` for none; numbers are hex. Each question gets one line as its answer.
-mod input;
 mod keys;
 mod lines;
 mod numbers;
 mod output;
 mod positions;
+
+// The most bytes of a byte string: more than a question of 4,000 characters has.
+pub const MOST_BYTES: usize = 2048;
 
 // One answer line. A question that is not known is answered by `?`.
 fn answer(question: &[u8]) {
@@ -28,14 +30,10 @@ fn answer(question: &[u8]) {
 }
 
 fn answer_all(questions: &[u8]) {
-    let mut from = 0;
-    while from < questions.len() {
-        let end = input::end_of(questions, from, 10);
-        answer(&questions[from..end]);
-        if end == questions.len() {
-            return;
-        }
-        from = end + 1;
+    let mut at = 0;
+    while at < questions.len() {
+        answer(script::line(questions, at));
+        at = script::next_line(questions, at);
     }
 }
 

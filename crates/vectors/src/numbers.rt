@@ -1,5 +1,5 @@
 // Questions about sums and about numbers as the file writes them.
-use super::input;
+use super::MOST_BYTES;
 use super::output;
 use fletcher::Sums;
 use numeral::Number;
@@ -7,8 +7,8 @@ use numeral::Numeral;
 
 // `sum BYTES`: the fletcher value.
 fn sum(question: &[u8]) {
-    let mut area = [0u8; input::MOST_BYTES];
-    let n = input::bytes(question, 1, &mut area);
+    let mut area = [0u8; MOST_BYTES];
+    let n = script::bytes(question, 1, &mut area);
     output::number(fletcher::sum_text(&area[..n]));
 }
 
@@ -25,15 +25,15 @@ fn filled(w: u16, count: u64) -> Sums {
 
 // `fill BYTE COUNT`: the fletcher value over so many times the byte.
 fn fill(question: &[u8]) {
-    let byte = input::number(question, 1) % 256;
-    let t = filled((byte * 257) as u16, input::number(question, 2) / 2);
+    let byte = script::number(question, 1, 16) % 256;
+    let t = filled((byte * 257) as u16, script::number(question, 2, 16) / 2);
     output::number(t.second as u64 * 65536 + t.first as u64);
 }
 
 // `hex BYTES`: the number that the text is.
 fn hex(question: &[u8]) {
-    let mut area = [0u8; input::MOST_BYTES];
-    let n = input::bytes(question, 1, &mut area);
+    let mut area = [0u8; MOST_BYTES];
+    let n = script::bytes(question, 1, &mut area);
     let read = numeral::read_hex(&area[..n]);
     match read {
         Number::Value(value) => {
@@ -47,7 +47,7 @@ fn hex(question: &[u8]) {
 
 // `digits NUMBER`: the number as a text.
 fn digits(question: &[u8]) {
-    let d = numeral::write_hex(input::number(question, 1));
+    let d = numeral::write_hex(script::number(question, 1, 16));
     let bytes = d.bytes;
     let start = d.start;
     output::bytes_from(&bytes, start);
@@ -55,10 +55,10 @@ fn digits(question: &[u8]) {
 
 // `be WIDTH AT BYTES`: the big-endian number, 0 where its bytes do not all stand there.
 fn big_endian(question: &[u8]) {
-    let width = input::number(question, 1);
-    let at = input::number(question, 2) as usize;
-    let mut area = [0u8; input::MOST_BYTES];
-    let n = input::bytes(question, 3, &mut area);
+    let width = script::number(question, 1, 16);
+    let at = script::number(question, 2, 16) as usize;
+    let mut area = [0u8; MOST_BYTES];
+    let n = script::bytes(question, 3, &mut area);
     if width == 2 {
         output::number(numeral::be16(&area[..n], at) as u64);
     } else if width == 4 {
@@ -70,10 +70,10 @@ fn big_endian(question: &[u8]) {
 
 // `var LIMIT AT BYTES`: the variable-size number, and the place after it.
 fn var(question: &[u8]) {
-    let limit = input::number(question, 1);
-    let at = input::number(question, 2) as usize;
-    let mut area = [0u8; input::MOST_BYTES];
-    let n = input::bytes(question, 3, &mut area);
+    let limit = script::number(question, 1, 16);
+    let at = script::number(question, 2, 16) as usize;
+    let mut area = [0u8; MOST_BYTES];
+    let n = script::bytes(question, 3, &mut area);
     let read = numeral::read_var(&area[..n], at, limit);
     match read {
         Numeral::Read { value, next } => {
@@ -87,17 +87,17 @@ fn var(question: &[u8]) {
 
 // Whether the question is one of these; then it is answered.
 pub fn answered(question: &[u8]) -> bool {
-    if input::is(question, b"sum") {
+    if script::is(question, b"sum") {
         sum(question);
-    } else if input::is(question, b"fill") {
+    } else if script::is(question, b"fill") {
         fill(question);
-    } else if input::is(question, b"hex") {
+    } else if script::is(question, b"hex") {
         hex(question);
-    } else if input::is(question, b"digits") {
+    } else if script::is(question, b"digits") {
         digits(question);
-    } else if input::is(question, b"be") {
+    } else if script::is(question, b"be") {
         big_endian(question);
-    } else if input::is(question, b"var") {
+    } else if script::is(question, b"var") {
         var(question);
     } else {
         return false;

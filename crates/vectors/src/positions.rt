@@ -1,5 +1,4 @@
 // Questions about positions.
-use super::input;
 use super::output;
 use position::Bound;
 use position::Made;
@@ -8,7 +7,7 @@ use position::Position;
 // `position NUMBER`: its chunk id, offset, length code and type.
 fn take_apart(question: &[u8]) {
     let p = Position {
-        bits: input::number(question, 1),
+        bits: script::number(question, 1, 16),
     };
     output::numbers(
         &[
@@ -23,10 +22,10 @@ fn take_apart(question: &[u8]) {
 // `make CHUNK OFFSET CODE TYPE`: the position with these fields.
 fn make(question: &[u8]) {
     let made = Position::make(
-        input::number32(question, 1),
-        input::number32(question, 2),
-        input::number32(question, 3),
-        input::number32(question, 4),
+        script::number32(question, 1, 16),
+        script::number32(question, 2, 16),
+        script::number32(question, 3, 16),
+        script::number32(question, 4, 16),
     );
     match made {
         Made::At(p) => {
@@ -40,7 +39,7 @@ fn make(question: &[u8]) {
 
 // `bound CODE`: the most bytes under a length code.
 fn bound(question: &[u8]) {
-    let b = position::bound_of(input::number32(question, 1));
+    let b = position::bound_of(script::number32(question, 1, 16));
     match b {
         Bound::Most(most) => {
             output::number(most as u64);
@@ -54,22 +53,22 @@ fn bound(question: &[u8]) {
 // `check CHUNK OFFSET LENGTH`: a page's check value.
 fn check(question: &[u8]) {
     let value = position::check_value(
-        input::number32(question, 1),
-        input::number32(question, 2),
-        input::number32(question, 3),
+        script::number32(question, 1, 16),
+        script::number32(question, 2, 16),
+        script::number32(question, 3, 16),
     );
     output::number(value as u64);
 }
 
 // Whether the question is one of these; then it is answered.
 pub fn answered(question: &[u8]) -> bool {
-    if input::is(question, b"position") {
+    if script::is(question, b"position") {
         take_apart(question);
-    } else if input::is(question, b"make") {
+    } else if script::is(question, b"make") {
         make(question);
-    } else if input::is(question, b"bound") {
+    } else if script::is(question, b"bound") {
         bound(question);
-    } else if input::is(question, b"check") {
+    } else if script::is(question, b"check") {
         check(question);
     } else {
         return false;

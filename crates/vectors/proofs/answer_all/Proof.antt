@@ -1,14 +1,14 @@
-use Prim.Native.Nat.{_≤_, _-_}
+use Prim.Native.Nat.{_-_}
 use lib.ListN.{length}
 use borrow.Author.Needs.{needs}
 use Rattle.vectors.proofs.answer_all.Statement.{statement}
 use Rattle.vectors.proofs.answer_all.Tie as tie
 
 abbrev Inv-loop : tie.InvT-loop
-Inv-loop questions from₀ from = «from» ≤ length questions
+Inv-loop questions at₀ at = Unit {0}
 
 abbrev μ-loop : tie.MeasureT-loop
-μ-loop questions from₀ from = length questions - «from»
+μ-loop questions at₀ at = length questions - at
 
 pub answer-all-spec : {M : Type 1} → statement M
 answer-all-spec =
@@ -18,12 +18,8 @@ answer-all-spec =
     μ-loop
     (λ c. search needs)
     (λ c κs. search needs)
-    (λ c. search needs)
-    (λ c. search needs)
-    (λ c. search needs)
     (λ c κs. search needs)
-    (λ c. search needs)
-    (λ c. search needs)
+    (λ c κs. search needs)
     (λ c. search needs)
     (λ c. search needs)
     (λ c. search needs))
