@@ -1,5 +1,4 @@
 // The questions about an image.
-use super::input;
 use super::output;
 use key::Kind;
 use metadata::Located;
@@ -11,12 +10,12 @@ use refusal::Refusal;
 // `map HEX`.
 fn map(line: &[u8], image: &[u8], newest: Chunk) {
     let mut name = [0u8; 1024];
-    let n = input::bytes(line, 1, &mut name);
+    let n = script::bytes(line, 1, &mut name);
     output::id(store::map_id(image, newest, &name[..n]));
 }
 
 fn kind(line: &[u8]) -> Kind {
-    if input::number(line, 3) == 0 {
+    if script::number(line, 3, 10) == 0 {
         Kind::Number
     } else {
         Kind::Text
@@ -26,7 +25,7 @@ fn kind(line: &[u8]) -> Kind {
 // `page POSITION ID KIND`; position 0 is out of place.
 fn page(line: &[u8], image: &[u8], newest: Chunk) {
     let position = Position {
-        bits: input::number(line, 1),
+        bits: script::number(line, 1, 10),
     };
     if position.is_empty() {
         output::refused(Refusal::new(Refusal::PLACE));
@@ -34,7 +33,7 @@ fn page(line: &[u8], image: &[u8], newest: Chunk) {
     }
     match store::chunk_place(image, newest, position.chunk()) {
         Located::At(place) => {
-            let map = input::small_number(line, 2);
+            let map = script::number32(line, 2, 10);
             output::judged(page::judge(image, place, position, map, kind(line)));
         }
         Located::Refused(r) => output::refused(r),
@@ -42,19 +41,19 @@ fn page(line: &[u8], image: &[u8], newest: Chunk) {
 }
 
 fn question(line: &[u8], image: &[u8], newest: Chunk) {
-    if input::is(line, b"map") {
+    if script::is(line, b"map") {
         map(line, image, newest);
         return;
     }
-    if input::is(line, b"root") {
-        output::root(store::map_root(image, newest, input::small_number(line, 1)));
+    if script::is(line, b"root") {
+        output::root(store::map_root(image, newest, script::number32(line, 1, 10)));
         return;
     }
-    if input::is(line, b"chunk") {
-        output::located(store::chunk_place(image, newest, input::small_number(line, 1)));
+    if script::is(line, b"chunk") {
+        output::located(store::chunk_place(image, newest, script::number32(line, 1, 10)));
         return;
     }
-    if input::is(line, b"page") {
+    if script::is(line, b"page") {
         page(line, image, newest);
         return;
     }

@@ -16,11 +16,13 @@
 //
 // An image's first line has its name; a question may also be answered by `refused N`.
 mod asking;
-mod input;
 mod making;
 mod output;
 
 use making::Held;
+
+// The most bytes of the input.
+const MOST_INPUT: usize = 1000000;
 
 // The answer to a question.
 fn ask(line: &[u8], area: &[u8], held: Held) {
@@ -34,23 +36,23 @@ fn ask(line: &[u8], area: &[u8], held: Held) {
 
 // Takes a line: what is held after it.
 fn take(line: &[u8], area: &mut [u8], base: &mut [u8], held: Held) -> Held {
-    if input::is(line, b"put") {
+    if script::is(line, b"put") {
         making::put(line, area);
         return held;
     }
-    if input::is(line, b"like") {
+    if script::is(line, b"like") {
         output::begun(line);
         return making::like(area, base, held);
     }
-    if input::is(line, b"image") {
+    if script::is(line, b"image") {
         output::begun(line);
         return making::begin(line, area, held);
     }
-    if input::is(line, b"keep") {
+    if script::is(line, b"keep") {
         return making::keep(area, base, held);
     }
-    if input::is(line, b"cut") {
-        return held.cut(input::number(line, 1) as usize);
+    if script::is(line, b"cut") {
+        return held.cut(script::number(line, 1, 10) as usize);
     }
     ask(line, area, held);
     held
@@ -60,8 +62,8 @@ fn take_all(input: &[u8], area: &mut [u8], base: &mut [u8]) {
     let mut held = Held { size: 0, kept: 0 };
     let mut at = 0;
     while at < input.len() {
-        held = take(input::line(input, at), area, base, held);
-        at = input::next_line(input, at);
+        held = take(script::line(input, at), area, base, held);
+        at = script::next_line(input, at);
     }
 }
 
@@ -73,7 +75,7 @@ fn run(buffer: &mut [u8], area: &mut [u8], base: &mut [u8]) {
 
 // The same with arrays, whose lengths are known by their types.
 fn run_in(
-    buffer: &mut [u8; input::MOST_BYTES],
+    buffer: &mut [u8; MOST_INPUT],
     area: &mut [u8; making::MOST_BYTES],
     base: &mut [u8; making::MOST_BYTES],
 ) {
@@ -81,7 +83,7 @@ fn run_in(
 }
 
 fn main() {
-    let mut buffer = [0u8; input::MOST_BYTES];
+    let mut buffer = [0u8; MOST_INPUT];
     let mut area = [0u8; making::MOST_BYTES];
     let mut base = [0u8; making::MOST_BYTES];
     run_in(&mut buffer, &mut area, &mut base);

@@ -1,5 +1,4 @@
 // Images as the input makes them, at the start of a lent area; the base at the start of another.
-use super::input;
 
 // The most blocks of an image, and the most bytes.
 const MOST_BLOCKS: u64 = 140;
@@ -51,7 +50,7 @@ fn copy(from: &[u8], to: &mut [u8], count: usize) {
 
 // `image NAME BLOCKS`; without bytes if it has too many blocks.
 pub fn begin(line: &[u8], area: &mut [u8], held: Held) -> Held {
-    let blocks = input::number(line, 2);
+    let blocks = script::number(line, 2, 10);
     if MOST_BLOCKS < blocks {
         return Held {
             size: 0,
@@ -88,8 +87,8 @@ pub fn like(area: &mut [u8], base: &[u8], held: Held) -> Held {
 
 // `put PLACE HEX`.
 pub fn put(line: &[u8], area: &mut [u8]) {
-    let place = input::number(line, 1) as usize;
+    let place = script::number(line, 1, 10) as usize;
     if place <= area.len() {
-        input::bytes(line, 2, &mut area[place..]);
+        script::bytes(line, 2, &mut area[place..]);
     }
 }

@@ -1,5 +1,4 @@
 // What a question is answered.
-use super::input;
 use metadata::Id;
 use metadata::Located;
 use metadata::Root;
@@ -59,7 +58,7 @@ pub fn judged(answer: Judged) {
 
 // The name of an image that begins.
 pub fn begun(line: &[u8]) {
-    io::write_all(1, input::word(line, 1));
+    io::write_all(1, script::word(line, 1));
     io::write_all(1, b"\n");
 }
 
