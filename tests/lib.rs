@@ -9,7 +9,6 @@ pub mod exchange;
 pub mod family;
 pub mod lookups;
 pub mod model;
-pub mod openings;
 pub mod random;
 pub mod subject;
 pub mod vectors;

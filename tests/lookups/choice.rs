@@ -64,13 +64,12 @@ fn hex(digits: &[u8]) -> Option<u64> {
     u64::from_str_radix(text, 16).ok().filter(|&number| number < UNKNOWN)
 }
 
-/// The questions for an image; one where opening refuses.
+/// The questions for an image; where opening refuses, whether it does so to another call too.
 pub fn questions(image: &[u8], names: &Names) -> Vec<Question> {
-    let unknown = Question::Map { name: b"nothing".to_vec() };
+    let mut all = vec![Question::Open, Question::Map { name: b"nothing".to_vec() }];
     let Ok(store) = Store::open(image) else {
-        return vec![unknown];
+        return all;
     };
-    let mut all = vec![unknown];
     all.extend(names.maps.iter().map(|name| Question::Map { name: name.clone() }));
     let longest = names.maps.iter().filter(|name| name.len() == LONGEST_NAME);
     all.extend(longest.map(|name| Question::Map { name: [name, &b"x"[..]].concat() }));

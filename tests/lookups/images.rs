@@ -1,4 +1,5 @@
-//! The images and their questions: the stored family, hostile stores, and stores that H2 wrote.
+//! The images and their questions: the stored family, hostile stores, stores that H2 wrote, and
+//! sizes.
 
 use std::fmt::Write;
 use std::path::Path as File;
@@ -6,7 +7,10 @@ use std::{fs, io};
 
 use super::choice::{questions, Names};
 use super::hostile::{hostile, Path};
+use super::sparse::sparse;
 use super::Question;
+use crate::check::stores;
+use crate::family::tiny::tiny_with;
 use crate::family::{self, Base, Case};
 use crate::model::image::BLOCK;
 use crate::vectors::bytes_word;
@@ -25,13 +29,16 @@ pub struct Asked {
     pub asked: Vec<(Question, String)>,
 }
 
-/// The stores of H2 that take few bytes.
-const REAL: [&str; 2] = ["bridge", "mixed"];
+/// The stores of H2 that take few bytes; the others are only opened.
+const SMALL: [&str; 2] = ["bridge", "mixed"];
+/// The sizes that are only opened, in blocks.
+const SIZES: [u64; 7] = [0, 1, 2, 3, 4, 139, 140];
 
 /// All images that fit.
 pub fn images() -> io::Result<Vec<Asked>> {
     let family = family::all().into_iter().flat_map(|(base, cases)| of_base(&base, &cases));
-    Ok(family.chain(hostile_stores()).chain(real()?).collect())
+    let sizes = SIZES.into_iter().map(sized);
+    Ok(family.chain(hostile_stores()).chain(real()?).chain(sizes).collect())
 }
 
 fn hostile_stores() -> Vec<Asked> {
@@ -42,10 +49,22 @@ fn hostile_stores() -> Vec<Asked> {
     [7, 8, 9].into_iter().flat_map(of).collect()
 }
 
+/// The stores that H2 wrote.
 fn real() -> io::Result<Vec<Asked>> {
     let folder = File::new(env!("CARGO_MANIFEST_DIR")).join("stores");
     let read = |name: &str| fs::read(folder.join(format!("{name}.base.mv")));
-    REAL.iter().map(|name| Ok(whole(&format!("h2-{name}"), &read(name)?))).collect()
+    let of = |name: &&str| {
+        let asked = if SMALL.contains(name) { whole } else { opened };
+        Ok(asked(&format!("h2-{name}"), &read(name)?))
+    };
+    stores::NAMES.iter().map(of).collect()
+}
+
+/// One chunk that fills the image after the file headers, where it has room for one.
+fn sized(blocks: u64) -> Asked {
+    let mut image = tiny_with(159, blocks.max(3) - 2).image();
+    image.truncate((blocks * BLOCK) as usize);
+    opened(&format!("size-{blocks}"), &image)
 }
 
 fn fits(image: &[u8]) -> bool {
@@ -68,6 +87,16 @@ fn of_base(base: &Base, cases: &[Case]) -> Vec<Asked> {
 /// An image from zeros.
 fn whole(name: &str, image: &[u8]) -> Asked {
     Asked::new(name, from_zeros(name, image), image, &Names::of(image))
+}
+
+/// An image that is only opened, without what opening can't look at; it opens as the whole one does.
+fn opened(name: &str, image: &[u8]) -> Asked {
+    assert!(fits(image), "too large: {name}");
+    let cut_down = sparse(image);
+    let answer = Question::Open.answer(image);
+    assert_eq!(Question::Open.answer(&cut_down), answer, "{name} opens differently when cut down");
+    let made = from_zeros(name, &cut_down);
+    Asked { name: name.to_string(), made, asked: vec![(Question::Open, answer)] }
 }
 
 /// A case, asked also for what its base names.

@@ -1,5 +1,5 @@
-//! Images, and questions for maps, roots, chunks and pages in them, for another program, with what
-//! the model says.
+//! Images, what each opens to, and questions for maps, roots, chunks and pages in them, for another
+//! program, with what the model says.
 //!
 //! ```text
 //! image NAME BLOCKS       an image begins: so many blocks of zeros
@@ -7,6 +7,7 @@
 //! like NAME               an image begins as a copy of the base
 //! put PLACE HEX           bytes placed in the image
 //! cut BYTES               so many bytes of it are the image
+//! open                    what the image opens to: `chunk C block B version V`
 //! map HEX                 the id of the map with a name: `id N`
 //! root ID                 the root of a map: `root POSITION`
 //! chunk N                 where a chunk is: `block N`
@@ -19,6 +20,7 @@ mod choice;
 mod hostile;
 mod images;
 mod question;
+mod sparse;
 
 pub use hostile::{hostile, Path};
 pub use images::{images, Asked};

@@ -3,6 +3,7 @@
 use std::fmt;
 
 use crate::model::ask;
+use crate::model::chunk::Chunk;
 use crate::model::key::Kind;
 use crate::model::locate::{Store, QUESTIONS};
 use crate::model::map::{map_of, Map};
@@ -12,6 +13,7 @@ use crate::vectors::bytes_word;
 
 #[derive(Clone, Debug, PartialEq, Eq, PartialOrd, Ord)]
 pub enum Question {
+    Open,
     Map { name: Vec<u8> },
     Root { id: u64 },
     Chunk { id: u64 },
@@ -26,6 +28,10 @@ impl Question {
 
     fn outcome(&self, image: &[u8]) -> Outcome<String> {
         match self {
+            Question::Open => {
+                let Chunk { id, block, version, .. } = ask::open(image)?;
+                Ok(format!("chunk {id} block {block} version {version}"))
+            }
             Question::Map { name } => Ok(format!("id {}", ask::find(image, name)?)),
             Question::Root { id } => {
                 let map = map_of(&Store::open(image)?, *id, Kind::Text)?;
@@ -55,6 +61,7 @@ fn page(image: &[u8], position: u64, map: u64, kind: u64) -> Outcome<String> {
 impl fmt::Display for Question {
     fn fmt(&self, f: &mut fmt::Formatter) -> fmt::Result {
         match self {
+            Question::Open => write!(f, "open"),
             Question::Map { name } => write!(f, "map {}", bytes_word(name)),
             Question::Root { id } => write!(f, "root {id}"),
             Question::Chunk { id } => write!(f, "chunk {id}"),

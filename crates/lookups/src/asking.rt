@@ -41,6 +41,10 @@ fn page(line: &[u8], image: &[u8], newest: Chunk) {
 }
 
 fn question(line: &[u8], image: &[u8], newest: Chunk) {
+    if script::is(line, b"open") {
+        output::newest(newest);
+        return;
+    }
     if script::is(line, b"map") {
         map(line, image, newest);
         return;

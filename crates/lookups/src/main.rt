@@ -1,5 +1,5 @@
-// Asks the proved crates for maps, roots, chunks and pages of images. The file `stdout` has what the
-// plain model in tests/ says to the same questions, to which these answers are held.
+// Opens images and asks for their maps, roots, chunks and pages by the proved crates. The file `stdout`
+// has what the plain model in tests/ says to the same questions, to which these answers are held.
 //
 // The input is lines of words with one space before each but the first. Numbers are decimal, bytes
 // two hex digits each.
@@ -9,6 +9,7 @@
 //     like NAME             an image begins as a copy of the base
 //     put PLACE HEX         bytes placed in the image
 //     cut BYTES             so many bytes of it are the image
+//     open                  what the image opens to: `chunk C block B version V`
 //     map HEX               the id of the map with a name: `id N`
 //     root ID               the root of a map: `root POSITION`
 //     chunk N               where a chunk is: `block N`

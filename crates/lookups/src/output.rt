@@ -2,17 +2,28 @@
 use metadata::Id;
 use metadata::Located;
 use metadata::Root;
+use opening::Chunk;
 use page::Judged;
 use refusal::Refusal;
 
-fn named(name: &[u8], value: u64) {
+fn part(name: &[u8], value: u64) {
     io::write_all(1, name);
     io::print_decimal(1, value);
+}
+
+fn named(name: &[u8], value: u64) {
+    part(name, value);
     io::write_all(1, b"\n");
 }
 
 pub fn refused(r: Refusal) {
     named(b"refused ", r.number as u64);
+}
+
+pub fn newest(c: Chunk) {
+    part(b"chunk ", c.id as u64);
+    part(b" block ", c.block as u64);
+    named(b" version ", c.version);
 }
 
 pub fn id(answer: Id) {
