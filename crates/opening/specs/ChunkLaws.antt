@@ -11,7 +11,7 @@ use Rattle.opening.specs.Names.{block, chunk, len}
 use Rattle.opening.specs.declared.image.Reading.{Reading}
 use Rattle.opening.specs.declared.chunk.Chunk.{Chunk}
 use Rattle.opening.specs.declared.chunk.Standing.the-variants.{Stands, Nothing}
-use Rattle.opening.specs.Image.{blockSize, blocksIn, chunkLine, footerLine, value}
+use Rattle.opening.specs.Image.{blockBytes, blocksIn, chunkLine, footerLine, value}
 use Rattle.opening.specs.Chunk.{needed, fitting, chunkOf, footerOf, footed, standsAt, saidAt}
 use Rattle.opening.specs.ImageLaws.{blocks-most, blocks-whole, newline-small}
 
@@ -190,5 +190,5 @@ module _ (image : List ℕ) {c : Chunk} (s : Stood image c) where
   stood-most = omega (arith, s .inside, blocks-most image)
 
   -- the chunk is whole in the image
-  pub stood-whole : (c .block + c .len) * blockSize ≤ length image
+  pub stood-whole : (c .block + c .len) * blockBytes ≤ length image
   stood-whole = omega (arith, s .inside, blocks-whole image)

@@ -21,12 +21,12 @@ use Rattle.line.specs.Fields.{readOf, noFields, rightSum}
 use Rattle.opening.specs.declared.image.Reading.{Reading}
 
 -- "A block is 4,096 bytes."
-abbrev pub blockSize : ℕ
-blockSize = 4096
+abbrev pub blockBytes : ℕ
+blockBytes = 4096
 
 -- "The image is its whole blocks; a last part block is ignored."
 abbrev pub blocksOf : List ℕ → ℕ
-blocksOf image = length image / blockSize
+blocksOf image = length image / blockBytes
 
 -- "It has 3 to 268,435,456 blocks."
 abbrev pub sizeRight : List ℕ → Bool
@@ -60,13 +60,13 @@ summedLine area = summed area (lineOf area)
 
 -- "Areas: a file header's block, a chunk header's first 1,024 bytes, a footer's 128 bytes."
 unfoldable pub headerLine : List ℕ → ℕ → Reading
-headerLine image c = summedLine (areaAt image (c * blockSize) blockSize)
+headerLine image c = summedLine (areaAt image (c * blockBytes) blockBytes)
 
 unfoldable pub chunkLine : List ℕ → ℕ → Reading
-chunkLine image b = plainLine (areaAt image (b * blockSize) 1024)
+chunkLine image b = plainLine (areaAt image (b * blockBytes) 1024)
 
 unfoldable pub footerLine : List ℕ → ℕ → Reading
-footerLine image e = summedLine (areaAt image (e * blockSize - 128) 128)
+footerLine image e = summedLine (areaAt image (e * blockBytes - 128) 128)
 
 -- ## What a reading says of a name, by the name's number
 abbrev pub gives : Reading → ℕ → Bool

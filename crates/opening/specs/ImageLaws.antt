@@ -11,7 +11,7 @@ use Rattle.line.specs.declared.Line.{Line}
 use Rattle.line.specs.declared.Line.the-variants.{At, Nothing}
 use Rattle.line.specs.Line.{lineOf}
 use Rattle.line.specs.LineLaws.{line-inside}
-use Rattle.opening.specs.Image.{blockSize, blocksOf, sizeRight, blocksIn, plain, areaAt, plainLine, chunkLine}
+use Rattle.opening.specs.Image.{blockBytes, blocksOf, sizeRight, blocksIn, plain, areaAt, plainLine, chunkLine}
 
 -- ## Blocks
 module _ (image : List ℕ) where
@@ -46,10 +46,10 @@ module _ (image : List ℕ) where
       go false e = omega (arith, blocks-wrong e)
 
   -- every block is whole
-  pub blocks-whole : blocksIn image * blockSize ≤ length image
+  pub blocks-whole : blocksIn image * blockBytes ≤ length image
   blocks-whole = go (sizeRight image) refl
     where
-      go : (t : Bool) → sizeRight image ≡ t → blocksIn image * blockSize ≤ length image
+      go : (t : Bool) → sizeRight image ≡ t → blocksIn image * blockBytes ≤ length image
       go true e = omega (arith, blocks-right e)
       go false e = omega (arith, blocks-wrong e)
 
@@ -84,8 +84,8 @@ unfolding chunkLine
 newline-small image b = go (lineOf area) refl
   where
     area : List ℕ
-    area = areaAt image (b * blockSize) 1024
+    area = areaAt image (b * blockBytes) 1024
 
     go : (l : Line) → lineOf area ≡ l → plain area l .newline < 1024
     go Nothing e = omega arith
-    go (At n newline) e = omega (arith, line-inside area n newline e .inside, area-length image (b * blockSize) 1024)
+    go (At n newline) e = omega (arith, line-inside area n newline e .inside, area-length image (b * blockBytes) 1024)

@@ -3,7 +3,7 @@ use line::Fields;
 use line::Line;
 ghost use Prim.Native.Nat.{_*_};
 ghost use mathlib.Core.Path.{_≡_};
-ghost use Rattle.opening.specs.Image.{blockSize, areaAt, blocksIn, noReading, gives, value, says, plainLine, summedLine, headerLine, chunkLine, footerLine};
+ghost use Rattle.opening.specs.Image.{blockBytes, areaAt, blocksIn, noReading, gives, value, says, plainLine, summedLine, headerLine, chunkLine, footerLine};
 
 // What a line says, and where its newline stands in its area.
 pub struct Reading {
@@ -74,7 +74,7 @@ pub fn blocks_in(image: &[u8]) -> u32
 
 // Where block `b` starts. Blocks past 524287 start past 2^31 - 1.
 fn start_of(b: u32) -> usize
-    ensures { λ r. ⌜ r ≡ b * blockSize ⌝ }
+    ensures { λ r. ⌜ r ≡ b * blockBytes ⌝ }
 {
     b as usize * 4096
 }

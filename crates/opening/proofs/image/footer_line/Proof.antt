@@ -1,7 +1,7 @@
 use native.Mathlib.Omega.{arith}
 use mathlib.Core.Path.{_≡_}
 use Prim.Native.Nat.{_-_, _*_}
-use Rattle.opening.specs.Image.{blockSize, footerLine}
+use Rattle.opening.specs.Image.{blockBytes, footerLine}
 use borrow.Author.Needs.{needs}
 use Rattle.opening.proofs.image.footer_line.Statement.{statement}
 use Rattle.opening.proofs.image.footer_line.Tie as tie
@@ -11,7 +11,7 @@ unfolding footerLine
 returns c =
     let c3 = c .before .before .before in
     let c5 = c3 .before .before in
-    let z : c5 .args .e * blockSize - 128 ≡ 0 = omega (arith, c3 .start-of .ensures) in
+    let z : c5 .args .e * blockBytes - 128 ≡ 0 = omega (arith, c3 .start-of .ensures) in
     rw (z, ← c .before .area-at .ensures) (c .summed-line .ensures)
 
 returns-2 : tie.Need-returns-2
