@@ -27,12 +27,12 @@ above image v (suc n) = counted (standsAt image n) v + above image v n
 
 -- ## A chunk that is kept
 pub kept-told : (P : Chunk → Bool) (s : Standing) {d : Chunk} → kept P s ≡ Stands d → (s ≡ Stands d) × (P d ≡ true)
-kept-told P Nothing e = absurd (let z : _≡_ {A = ℕ} 0 1 = cc in omega arith)
+kept-told P Nothing e = (e, cc)
 kept-told P (Stands c) {d} e = go (P c) refl e
   where
     go : (t : Bool) → P c ≡ t → cond t (Stands c) Nothing ≡ Stands d → (Stands c ≡ Stands d) × (P d ≡ true)
     go true q e = let s : c ≡ d = cc in (e, rw s at q)
-    go false q e = absurd (let z : _≡_ {A = ℕ} 0 1 = cc in omega arith)
+    go false q e = (cc, cc)
 
 -- ## How many are newer
 module _ (v : ℕ) where
@@ -166,11 +166,4 @@ chain-ended image c =
     along image (λ n c. successor image (chain image n c) ≡ Nothing)
     (λ n c e. rw (chain-last image n c e) e)
     (λ n c d e h. rw (chain-on image n c d e) h)
-    (blocksIn image) c (blocks-enough image c)
-
-pub chain-stood : (image : List ℕ) {c : Chunk} → Stood image c → Stood image (chain image (blocksIn image) c)
-chain-stood image {c} =
-    along image (λ n c. Stood image c → Stood image (chain image n c))
-    (λ n c e s. rw (chain-last image n c e) s)
-    (λ n c d e h s. rw (chain-on image n c d e) (h (successor-stood image c e)))
     (blocksIn image) c (blocks-enough image c)

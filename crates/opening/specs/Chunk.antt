@@ -3,7 +3,8 @@
 --   Chunk              the struct: id, block, len (in blocks), first (where its pages may begin), next, root, version
 --   needed r           a chunk header's reading has all the fields that are needed
 --   saidAt image b     the chunk that the header in block b says, whatever its footer is
---   footed image c     the chunk's footer is right and says the same chunk, block and version
+--   footed image c     the chunk, if its footer is right and says the same chunk, block and version
+--   withFooter image s the same of a chunk that a header says
 --   standsAt image b   the chunk that stands at block b, if one does
 use Prim.Native.Nat.{ℕ, suc, _+_, _^_}
 use mathlib.Core.Bool.{Bool, cond, _&&_}
@@ -47,14 +48,15 @@ footerOf c f =
 unfoldable pub footed : List ℕ → Chunk → Standing
 footed image c = cond (footerOf c (footerLine image (c .block + c .len))) (Stands c) Nothing
 
--- "A chunk stands at block b if b is at least 2; [..]"
-unfoldable pub standsAt : List ℕ → ℕ → Standing
-standsAt image b =
-    let r = chunkLine image b in
-    cond (leb 2 b && (needed r && fitting (blocksIn image) b r)) (footed image (chunkOf b r)) Nothing
-
--- the same up to its footer
+-- "A chunk stands at block b if b is at least 2; [..]": what its header line must say, then its footer
 unfoldable pub saidAt : List ℕ → ℕ → Standing
 saidAt image b =
     let r = chunkLine image b in
     cond (leb 2 b && (needed r && fitting (blocksIn image) b r)) (Stands (chunkOf b r)) Nothing
+
+abbrev pub withFooter : List ℕ → Standing → Standing
+withFooter image Nothing = Nothing
+withFooter image (Stands c) = footed image c
+
+unfoldable pub standsAt : List ℕ → ℕ → Standing
+standsAt image b = withFooter image (saidAt image b)

@@ -1,23 +1,23 @@
 -- Laws of standing chunks.
-use Prim.Native.Nat.{ℕ, _+_, _*_, _-_, _^_, _<_, _≤_}
+use Prim.Native.Nat.{ℕ, _+_, _-_, _^_, _<_, _≤_}
 use mathlib.Core.Path.{_≡_, refl, sym, _∙_, ap, subst}
-use mathlib.Core.Bool.{Bool, true, false, cond, _&&_}
+use mathlib.Core.Bool.{Bool, true, false, cond, _&&_, true≢false}
 use mathlib.Core.List.{List}
 use native.Mathlib.Omega.{arith}
 use borrow.Author.Tests.{ltb-true, leb-true, leb-false, eqb-true, le-leb, lt-leb}
 use lib.Dec.{eqb, ltb, leb}
-use lib.ListN.{length}
 use Rattle.opening.specs.Names.{block, chunk, len}
 use Rattle.opening.specs.declared.image.Reading.{Reading}
 use Rattle.opening.specs.declared.chunk.Chunk.{Chunk}
+use Rattle.opening.specs.declared.chunk.Standing.{Standing}
 use Rattle.opening.specs.declared.chunk.Standing.the-variants.{Stands, Nothing}
-use Rattle.opening.specs.Image.{blockBytes, blocksIn, chunkLine, footerLine, value}
-use Rattle.opening.specs.Chunk.{needed, fitting, chunkOf, footerOf, footed, standsAt, saidAt}
-use Rattle.opening.specs.ImageLaws.{blocks-most, blocks-whole, newline-small}
+use Rattle.opening.specs.Image.{blocksIn, chunkLine, footerLine, value}
+use Rattle.opening.specs.Chunk.{needed, fitting, chunkOf, footerOf, footed, saidAt, withFooter, standsAt}
+use Rattle.opening.specs.ImageLaws.{blocks-most, newline-small}
 
 both : (a b : Bool) → a && b ≡ true → (a ≡ true) × (b ≡ true)
 both true b e = (refl, e)
-both false b e = absurd (let z : _≡_ {A = ℕ} 0 1 = cc in omega arith)
+both false b e = (e, cc)
 
 -- ## A header that fits its block
 pub record Fits (blocks b : ℕ) (r : Reading) : Type 0 where
@@ -94,7 +94,7 @@ module _ (image : List ℕ) (b : ℕ) {c : Chunk} (s : saidAt image b ≡ Stands
   said-told = go (leb 2 b) refl (needed (chunkLine image b)) refl (fitting (blocksIn image) b (chunkLine image b)) refl
     where
       never : saidAt image b ≡ Nothing → ⊥
-      never e = let z : _≡_ {A = ℕ} 0 1 = cc in omega arith
+      never e = true≢false cc
 
       go : (t : Bool) → leb 2 b ≡ t → (u : Bool) → needed (chunkLine image b) ≡ u → (v : Bool) →
           fitting (blocksIn image) b (chunkLine image b) ≡ v →
@@ -112,83 +112,48 @@ module _ (image : List ℕ) (b : ℕ) {c : Chunk} (s : saidAt image b ≡ Stands
 
   pub stands-footed : standsAt image b ≡ footed image c
   unfolding standsAt
-  stands-footed = let t = said-told in rw (le-leb 2 b (t .0), t .1, t .2, ← said-chunk)
+  stands-footed = rw s
 
 pub stands-unsaid : (image : List ℕ) (b : ℕ) → saidAt image b ≡ Nothing → standsAt image b ≡ Nothing
-unfolding saidAt standsAt
-stands-unsaid image b s = go (leb 2 b && (needed (chunkLine image b) && fitting (blocksIn image) b (chunkLine image b))) s
-  where
-    go : (t : Bool) → cond t (Stands (chunkOf b (chunkLine image b))) Nothing ≡ Nothing →
-        cond t (footed image (chunkOf b (chunkLine image b))) Nothing ≡ Nothing
-    go true e = absurd (let z : _≡_ {A = ℕ} 0 1 = cc in omega arith)
-    go false e = refl
+unfolding standsAt
+stands-unsaid image b s = rw s
 
 -- ## What holds of a chunk that stands
+footed-same : (image : List ℕ) (c : Chunk) {d : Chunk} → footed image c ≡ Stands d → Stands c ≡ Stands d
+unfolding footed
+footed-same image c {d} e = go (footerOf c (footerLine image (c .block + c .len))) e
+  where
+    go : (t : Bool) → cond t (Stands c) Nothing ≡ Stands d → Stands c ≡ Stands d
+    go true e = e
+    go false e = cc
+
+-- it is what the header in its block says
+stands-said : (image : List ℕ) (b : ℕ) {c : Chunk} → standsAt image b ≡ Stands c → saidAt image b ≡ Stands c
+unfolding standsAt
+stands-said image b {c} e = go (saidAt image b) e
+  where
+    go : (s : Standing) → withFooter image s ≡ Stands c → s ≡ Stands c
+    go Nothing e = e
+    go (Stands d) e = footed-same image d e
+
 pub record Stood (image : List ℕ) (c : Chunk) : Type 0 where
-  pub stands : standsAt image (c .block) ≡ Stands c
-  pub after-headers : 2 ≤ c .block
-  pub id-small : c .id < 2 ^ 26
   pub len-some : 1 ≤ c .len
   pub inside : c .block + c .len ≤ blocksIn image
-  pub first-some : 1 ≤ c .first
   pub first-small : c .first ≤ 1024
-  pub footer-right : footerOf c (footerLine image (c .block + c .len)) ≡ true
-
-footed-right : (image : List ℕ) (c : Chunk) {d : Chunk} → footed image c ≡ Stands d →
-    (c ≡ d) × (footerOf c (footerLine image (c .block + c .len)) ≡ true)
-unfolding footed
-footed-right image c {d} e = go (footerOf c (footerLine image (c .block + c .len))) refl e
-  where
-    go : (t : Bool) → footerOf c (footerLine image (c .block + c .len)) ≡ t → cond t (Stands c) Nothing ≡ Stands d →
-        (c ≡ d) × (footerOf c (footerLine image (c .block + c .len)) ≡ true)
-    go true q e = (cc, q)
-    go false q e = absurd (let z : _≡_ {A = ℕ} 0 1 = cc in omega arith)
-
-header-stood : (image : List ℕ) (b : ℕ) → 2 ≤ b → Fits (blocksIn image) b (chunkLine image b) →
-    standsAt image b ≡ Stands (chunkOf b (chunkLine image b)) →
-    footerOf (chunkOf b (chunkLine image b)) (footerLine image (b + value (chunkLine image b) len)) ≡ true →
-    Stood image (chunkOf b (chunkLine image b))
-header-stood image b h f s q =
-    record {
-      stands = s;
-      after-headers = h;
-      id-small = f .id-small;
-      len-some = f .len-some;
-      inside = f .inside;
-      first-some = omega arith;
-      first-small = omega (arith, newline-small image b);
-      footer-right = q;
-    }
 
 module _ (image : List ℕ) (b : ℕ) {c : Chunk} (s : standsAt image b ≡ Stands c) where
-  stands-said : saidAt image b ≡ Stands (chunkOf b (chunkLine image b))
-  unfolding saidAt standsAt
-  stands-said = go (leb 2 b && (needed (chunkLine image b) && fitting (blocksIn image) b (chunkLine image b))) s
-    where
-      go : (t : Bool) → cond t (footed image (chunkOf b (chunkLine image b))) Nothing ≡ Stands c →
-          cond t (Stands (chunkOf b (chunkLine image b))) Nothing ≡ Stands (chunkOf b (chunkLine image b))
-      go true e = refl
-      go false e = absurd (let z : _≡_ {A = ℕ} 0 1 = cc in omega arith)
-
-  header-right : (chunkOf b (chunkLine image b) ≡ c) ×
-      (footerOf (chunkOf b (chunkLine image b)) (footerLine image (b + value (chunkLine image b) len)) ≡ true)
-  header-right = footed-right image (chunkOf b (chunkLine image b)) (sym (stands-footed image b stands-said) ∙ s)
+  stands-chunk : chunkOf b (chunkLine image b) ≡ c
+  stands-chunk = said-chunk image b (stands-said image b s)
 
   pub stands-block : c .block ≡ b
-  stands-block = ap (λ (k : Chunk). k .block) (sym (header-right .0))
+  stands-block = ap (λ (k : Chunk). k .block) (sym stands-chunk)
 
   pub stands-stood : Stood image c
   stands-stood =
-      let t = said-told image b stands-said in
-      let h = header-right in
-      subst (λ (k : Chunk). Stood image k) (h .0)
-      (header-stood image b (t .0) (fitting-fits (blocksIn image) b (chunkLine image b) (t .2)) (s ∙ ap Stands (sym (h .0))) (h .1))
+      let f = fitting-fits (blocksIn image) b (chunkLine image b) (said-told image b (stands-said image b s) .2) in
+      subst (λ (k : Chunk). Stood image k) stands-chunk
+      (record { len-some = f .len-some; inside = f .inside; first-small = omega (arith, newline-small image b) })
 
--- ## Where its bytes are
-module _ (image : List ℕ) {c : Chunk} (s : Stood image c) where
-  pub stood-most : c .block + c .len ≤ 2 ^ 28
-  stood-most = omega (arith, s .inside, blocks-most image)
-
-  -- the chunk is whole in the image
-  pub stood-whole : (c .block + c .len) * blockBytes ≤ length image
-  stood-whole = omega (arith, s .inside, blocks-whole image)
+-- no chunk ends past the largest image
+pub stood-most : (image : List ℕ) {c : Chunk} → Stood image c → c .block + c .len ≤ 2 ^ 28
+stood-most image s = omega (arith, s .inside, blocks-most image)

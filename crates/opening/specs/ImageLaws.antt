@@ -45,14 +45,6 @@ module _ (image : List ℕ) where
       go true e = omega (arith, blocks-right e, within-true 3 268435456 (blocksOf image) e .1)
       go false e = omega (arith, blocks-wrong e)
 
-  -- every block is whole
-  pub blocks-whole : blocksIn image * blockBytes ≤ length image
-  blocks-whole = go (sizeRight image) refl
-    where
-      go : (t : Bool) → sizeRight image ≡ t → blocksIn image * blockBytes ≤ length image
-      go true e = omega (arith, blocks-right e)
-      go false e = omega (arith, blocks-wrong e)
-
 -- ## Areas
 module _ (image : List ℕ) (at n : ℕ) where
   pub area-past : length image ≤ at → areaAt image (length image) (length image - length image) ≡ areaAt image at n
