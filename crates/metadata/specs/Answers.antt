@@ -8,22 +8,22 @@
 --   locatedBy, valueBy, idBy, rootBy    the answers by what was told of a chunk, or by what a lookup answered
 --   placeSaid, idSaid, rootSaid  the answers of the code as outcomes
 use Prim.Native.Nat.{ℕ}
-use mathlib.Core.Bool.{false, cond}
+use mathlib.Core.Bool.{cond}
 use mathlib.Core.List.{List}
 use mathlib.Core.Option.{Option, none, some}
-use lib.ListN.{getD, take, drop}
+use lib.ListN.{take, drop}
 use Rattle.refusal.specs.Refusal.{Outcome, ok, refuse, notLocated, noSuchName, notANumber}
 use Rattle.text.specs.Text.{within}
 use Rattle.numeral.specs.declared.hex.Number.{Number}
 use Rattle.numeral.specs.declared.hex.Number.the-variants as number
 use Rattle.numeral.specs.Hex.{hexOf}
 use Rattle.line.specs.declared.read.Fields.{Fields}
-use Rattle.line.specs.Fields.{readOf}
+use Rattle.line.specs.Fields.{nameBlock, readOf}
 use Rattle.tree.specs.Page.{branch}
 use Rattle.opening.specs.declared.chunk.Chunk.{Chunk}
 use Rattle.opening.specs.declared.chunk.Standing.{Standing}
 use Rattle.opening.specs.declared.chunk.Standing.the-variants.{Stands, Nothing}
-use Rattle.opening.specs.Names.{block}
+use Rattle.opening.specs.Names.{givenOf, valueOf}
 use Rattle.opening.specs.Chunk.{standsAt}
 use Rattle.opening.specs.Opening.{kept, hasId}
 use Rattle.item.specs.Item.{Spot}
@@ -52,7 +52,7 @@ placeOf c = record { block = c .block; len = c .len; first = c .first }
 
 -- "the value's bytes are a line in the sense above, without the newline; its `block` says where chunk N must stand"
 abbrev pub standsBy : List ℕ → ℕ → Fields → Standing
-standsBy image n f = cond (getD (f .given) block false) (kept (hasId n) (standsAt image (getD (f .values) block 0))) Nothing
+standsBy image n f = cond (givenOf f nameBlock) (kept (hasId n) (standsAt image (valueOf f nameBlock))) Nothing
 
 unfoldable pub standingBy : List ℕ → ℕ → Spot → Standing
 standingBy image n v = standsBy image n (readOf (bytesAt image v))

@@ -10,7 +10,7 @@ use Prim.Native.Nat.{ℕ, suc, _+_, _^_}
 use mathlib.Core.Bool.{Bool, cond, _&&_}
 use mathlib.Core.List.{List}
 use lib.Dec.{eqb, leb, ltb}
-use Rattle.opening.specs.Names.{block, chunk, len, next, pages, root, version}
+use Rattle.line.specs.Fields.{nameBlock, nameChunk, nameVersion, nameLen, nameNext, namePages, nameRoot}
 use Rattle.opening.specs.declared.image.Reading.{Reading}
 use Rattle.opening.specs.declared.chunk.Chunk.{Chunk}
 use Rattle.opening.specs.declared.chunk.Standing.{Standing}
@@ -20,30 +20,32 @@ use Rattle.opening.specs.Image.{blocksIn, chunkLine, footerLine, gives, 
 -- "its header line has chunk, block, len, next, pages, root, version"
 unfoldable pub needed : Reading → Bool
 needed r =
-    gives r chunk && (gives r block && (gives r len && (gives r next && (gives r pages && (gives r root && gives r version)))))
+    gives r nameChunk &&
+    (gives r nameBlock && (gives r nameLen && (gives r nameNext && (gives r namePages && (gives r nameRoot && gives r nameVersion)))))
 
 -- "chunk is below 2^26; block is b; len is at least 1; b+len is at most the image's blocks"
 unfoldable pub fitting : ℕ → ℕ → Reading → Bool
 fitting blocks b r =
-    ltb (value r chunk) (2 ^ 26) && (eqb (value r block) b && (leb 1 (value r len) && leb (b + value r len) blocks))
+    ltb (value r nameChunk) (2 ^ 26) &&
+    (eqb (value r nameBlock) b && (leb 1 (value r nameLen) && leb (b + value r nameLen) blocks))
 
 -- what the header says; its pages begin after its newline
 abbrev pub chunkOf : ℕ → Reading → Chunk
 chunkOf b r =
     record {
-      id = value r chunk;
+      id = value r nameChunk;
       block = b;
-      len = value r len;
+      len = value r nameLen;
       first = suc (r .newline);
-      next = value r next;
-      root = value r root;
-      version = value r version;
+      next = value r nameNext;
+      root = value r nameRoot;
+      version = value r nameVersion;
     }
 
 -- "the last 128 bytes of block b+len-1 are a footer line with a right `fletcher` and the same chunk, block and version"
 unfoldable pub footerOf : Chunk → Reading → Bool
 footerOf c f =
-    says f chunk (c .id) && (says f block (c .block) && says f version (c .version))
+    says f nameChunk (c .id) && (says f nameBlock (c .block) && says f nameVersion (c .version))
 
 unfoldable pub footed : List ℕ → Chunk → Standing
 footed image c = cond (footerOf c (footerLine image (c .block + c .len))) (Stands c) Nothing

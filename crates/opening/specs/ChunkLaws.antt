@@ -6,7 +6,7 @@ use mathlib.Core.List.{List}
 use native.Mathlib.Omega.{arith}
 use borrow.Author.Tests.{ltb-true, leb-true, leb-false, eqb-true, le-leb, lt-leb}
 use lib.Dec.{eqb, ltb, leb}
-use Rattle.opening.specs.Names.{block, chunk, len}
+use Rattle.line.specs.Fields.{nameBlock, nameChunk, nameLen}
 use Rattle.opening.specs.declared.image.Reading.{Reading}
 use Rattle.opening.specs.declared.chunk.Chunk.{Chunk}
 use Rattle.opening.specs.declared.chunk.Standing.{Standing}
@@ -21,22 +21,22 @@ both false b e = (e, cc)
 
 -- ## A header that fits its block
 pub record Fits (blocks b : ℕ) (r : Reading) : Type 0 where
-  pub id-small : value r chunk < 2 ^ 26
-  pub block-right : value r block ≡ b
-  pub len-some : 1 ≤ value r len
-  pub inside : b + value r len ≤ blocks
+  pub id-small : value r nameChunk < 2 ^ 26
+  pub block-right : value r nameBlock ≡ b
+  pub len-some : 1 ≤ value r nameLen
+  pub inside : b + value r nameLen ≤ blocks
 
 pub fitting-fits : (blocks b : ℕ) (r : Reading) → fitting blocks b r ≡ true → Fits blocks b r
 unfolding fitting
 fitting-fits blocks b r e =
-    let one = both (ltb (value r chunk) (2 ^ 26)) _ e in
-    let two = both (eqb (value r block) b) _ (one .1) in
-    let three = both (leb 1 (value r len)) (leb (b + value r len) blocks) (two .1) in
+    let one = both (ltb (value r nameChunk) (2 ^ 26)) _ e in
+    let two = both (eqb (value r nameBlock) b) _ (one .1) in
+    let three = both (leb 1 (value r nameLen)) (leb (b + value r nameLen) blocks) (two .1) in
     record {
-      id-small = ltb-true (value r chunk) (2 ^ 26) (one .0);
-      block-right = eqb-true (value r block) b (two .0);
-      len-some = leb-true 1 (value r len) (three .0);
-      inside = leb-true (b + value r len) blocks (three .1);
+      id-small = ltb-true (value r nameChunk) (2 ^ 26) (one .0);
+      block-right = eqb-true (value r nameBlock) b (two .0);
+      len-some = leb-true 1 (value r nameLen) (three .0);
+      inside = leb-true (b + value r nameLen) blocks (three .1);
     }
 
 -- the test as the code makes it, which has no sum
@@ -49,8 +49,8 @@ room-test n b blocks h = go (leb n (blocks - b)) refl
 
 -- its numbers are small
 pub record Small (r : Reading) : Type 0 where
-  pub id-small : value r chunk < 2 ^ 26
-  pub len-small : value r len ≤ 2 ^ 28
+  pub id-small : value r nameChunk < 2 ^ 26
+  pub len-small : value r nameLen ≤ 2 ^ 28
   pub newline-small : r .newline < 1024
 
 -- ## What a header says, a law for each way that the code takes

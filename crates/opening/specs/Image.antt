@@ -4,21 +4,23 @@
 --   sizeRight image      3 to 268,435,456 blocks
 --   blocksIn image       the number of blocks; 0 where the size is not right
 --   Reading              what a line says, and where its newline stands in its area
+--   gives, value, says   whether a reading has a field of a name, its value, and whether it has it with a value
 --   headerLine image c   a file header's line: copy c stands in block c
 --   chunkLine image b    the line of the chunk header in block b
 --   footerLine image e   the footer's line in the last 128 bytes before block e
 -- The last three are all that opening reads of the image.
 use Prim.Native.Nat.{ℕ, _*_, _-_, _/_}
-use mathlib.Core.Bool.{Bool, false, cond, _&&_}
+use mathlib.Core.Bool.{Bool, cond, _&&_}
 use mathlib.Core.List.{List}
 use lib.Dec.{eqb}
-use lib.ListN.{length, take, drop, getD}
+use lib.ListN.{length, take, drop}
 use Rattle.text.specs.Text.{within}
 use Rattle.line.specs.declared.Line.{Line}
 use Rattle.line.specs.declared.Line.the-variants.{At, Nothing}
 use Rattle.line.specs.Line.{lineOf}
 use Rattle.line.specs.Fields.{readOf, noFields, rightSum}
 use Rattle.opening.specs.declared.image.Reading.{Reading}
+use Rattle.opening.specs.Names.{givenAt, valueAt, givenOf, valueOf}
 
 -- "A block is 4,096 bytes."
 abbrev pub blockBytes : ℕ
@@ -68,12 +70,16 @@ chunkLine image b = plainLine (areaAt image (b * blockBytes) 1024)
 unfoldable pub footerLine : List ℕ → ℕ → Reading
 footerLine image e = summedLine (areaAt image (e * blockBytes - 128) 128)
 
--- ## What a reading says of a name, by the name's number
-abbrev pub gives : Reading → ℕ → Bool
-gives r name = getD (r .fields .given) name false
+-- ## What a reading says of a name
+abbrev pub gives : Reading → List ℕ → Bool
+gives r name = givenOf (r .fields) name
 
-abbrev pub value : Reading → ℕ → ℕ
-value r name = getD (r .fields .values) name 0
+abbrev pub value : Reading → List ℕ → ℕ
+value r name = valueOf (r .fields) name
 
-abbrev pub says : Reading → ℕ → ℕ → Bool
+abbrev pub says : Reading → List ℕ → ℕ → Bool
 says r name v = gives r name && eqb (value r name) v
+
+-- the same of a slot, as the code asks
+abbrev pub saysAt : Reading → ℕ → ℕ → Bool
+saysAt r k v = givenAt (r .fields) k && eqb (valueAt (r .fields) k) v

@@ -2,6 +2,7 @@ pub mod Names
 pub mod Image
 pub mod Chunk
 pub mod Opening
+pub mod NamesLaws
 pub mod ImageLaws
 pub mod ChunkLaws
 pub mod ChainLaws

@@ -15,7 +15,7 @@ use mathlib.Core.Bool.{Bool, true, false, cond, _&&_, _||_}
 use mathlib.Core.List.{List}
 use lib.Dec.{eqb, ltb}
 use Rattle.refusal.specs.Refusal.{badImageSize, noHeader, noStart}
-use Rattle.opening.specs.Names.{h, blockSize, format, block, chunk, version}
+use Rattle.line.specs.Fields.{nameH, nameBlockSize, nameFormat, nameBlock, nameChunk, nameVersion}
 use Rattle.opening.specs.declared.image.Reading.{Reading}
 use Rattle.opening.specs.declared.chunk.Chunk.{Chunk}
 use Rattle.opening.specs.declared.chunk.Standing.{Standing}
@@ -31,18 +31,18 @@ use Rattle.opening.specs.Chunk.{standsAt}
 -- "A file header copy [..] is good if its line has a right `fletcher`, H:2, blockSize:1000, format:1, and either all of block,
 -- chunk, version or none."
 unfoldable pub formatRight : Reading → Bool
-formatRight r = says r h 2 && (says r blockSize 0x1000 && says r format 1)
+formatRight r = says r nameH 2 && (says r nameBlockSize 0x1000 && says r nameFormat 1)
 
 unfoldable pub namesAll : Reading → Bool
-namesAll r = gives r block && (gives r chunk && gives r version)
+namesAll r = gives r nameBlock && (gives r nameChunk && gives r nameVersion)
 
 unfoldable pub namesAny : Reading → Bool
-namesAny r = gives r block || (gives r chunk || gives r version)
+namesAny r = gives r nameBlock || (gives r nameChunk || gives r nameVersion)
 
 unfoldable pub copyOf : Reading → Copy
 copyOf r =
     cond (formatRight r)
-    (cond (namesAll r) (Names (value r block) (value r chunk) (value r version)) (cond (namesAny r) NoCopy Plain))
+    (cond (namesAll r) (Names (value r nameBlock) (value r nameChunk) (value r nameVersion)) (cond (namesAny r) NoCopy Plain))
     NoCopy
 
 -- "Both good: the larger version, a copy without version counting lowest, the first copy at a tie."
@@ -83,7 +83,7 @@ headerStart image (Names b c v) = kept (hasId c) (standsAt image b)
 unfoldable pub footerStart : List ℕ → Standing
 footerStart image =
     let f = footerLine image (blocksIn image) in
-    cond (gives f block) (kept (endsAt (blocksIn image)) (standsAt image (value f block))) Nothing
+    cond (gives f nameBlock) (kept (endsAt (blocksIn image)) (standsAt image (value f nameBlock))) Nothing
 
 -- "The higher version is taken, the lower block at a tie."
 unfoldable pub higher : Standing → Standing → Standing

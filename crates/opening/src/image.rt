@@ -3,7 +3,8 @@ use line::Fields;
 use line::Line;
 ghost use Prim.Native.Nat.{_*_};
 ghost use mathlib.Core.Path.{_≡_};
-ghost use Rattle.opening.specs.Image.{blockBytes, areaAt, blocksIn, noReading, gives, value, says, plainLine, summedLine, headerLine, chunkLine, footerLine};
+ghost use Rattle.opening.specs.Names.{givenAt, valueAt};
+ghost use Rattle.opening.specs.Image.{blockBytes, areaAt, blocksIn, noReading, saysAt, plainLine, summedLine, headerLine, chunkLine, footerLine};
 
 // What a line says, and where its newline stands in its area.
 pub struct Reading {
@@ -26,7 +27,7 @@ impl Reading {
 
     // Whether the name of that number is given.
     pub fn gives(self, name: usize) -> bool
-        ensures { λ x. ⌜ x ≡ gives self name ⌝ }
+        ensures { λ x. ⌜ x ≡ givenAt (self .fields) name ⌝ }
     {
         let f = self.fields;
         let given = f.given;
@@ -39,7 +40,7 @@ impl Reading {
 
     // The value of the name of that number, 0 where it is not given.
     pub fn value(self, name: usize) -> u64
-        ensures { λ x. ⌜ x ≡ value self name ⌝ }
+        ensures { λ x. ⌜ x ≡ valueAt (self .fields) name ⌝ }
     {
         let f = self.fields;
         let values = f.values;
@@ -52,7 +53,7 @@ impl Reading {
 
     // Whether the name of that number is given, with the value `v`.
     pub fn says(self, name: usize, v: u64) -> bool
-        ensures { λ x. ⌜ x ≡ says self name v ⌝ }
+        ensures { λ x. ⌜ x ≡ saysAt self name v ⌝ }
     {
         self.gives(name) && self.value(name) == v
     }

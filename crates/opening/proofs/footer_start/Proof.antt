@@ -1,5 +1,7 @@
 use mathlib.Core.Path.{_≡_, sym, _∙_}
 use denote.Ref.{now}
+use Rattle.text.specs.Text.{same}
+use Rattle.line.specs.Reading.{numberOf, slotOf}
 use Rattle.opening.specs.Chunk.{standsAt}
 use Rattle.opening.specs.Opening.{kept, endsAt, footerStart}
 use Rattle.opening.specs.ChunkLaws.{stands-footed, stands-unsaid}
@@ -9,7 +11,7 @@ use Rattle.opening.proofs.footer_start.Statement.{statement}
 use Rattle.opening.proofs.footer_start.Tie as tie
 
 returns : tie.Need-returns
-unfolding footerStart
+unfolding footerStart slotOf numberOf same
 returns c =
     let c3 = c .before .before .before in
     rw (← c3 .blocks-in .ensures, ← c .before .before .footer-line .ensures, ← c .before .gives .ensures, c .if1 .left)
@@ -19,7 +21,7 @@ named : (c : tie.After-said-at) →
     footerStart (now (c .before .before .before .before .before .before .before .args .image)) ≡
     kept (endsAt (c .before .before .before .before .before .blocks-in .result))
     (standsAt (now (c .before .before .before .before .before .before .before .args .image)) (c .before .value .result))
-unfolding footerStart
+unfolding footerStart slotOf numberOf same
 named c =
     let c3 = c .before .before .before in
     rw (

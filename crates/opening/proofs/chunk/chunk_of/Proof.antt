@@ -1,9 +1,12 @@
 use native.Mathlib.Numerals.{add-one}
+use Rattle.text.specs.Text.{same}
+use Rattle.line.specs.Reading.{numberOf, slotOf}
 use borrow.Author.Needs.{needs}
 use Rattle.opening.proofs.chunk.chunk_of.Statement.{statement}
 use Rattle.opening.proofs.chunk.chunk_of.Tie as tie
 
 returns : tie.Need-returns
+unfolding slotOf numberOf same
 returns c =
     let c4 = c .before .before .before .before in
     let c5 = c4 .before in
@@ -19,6 +22,7 @@ returns c =
     )
 
 pub chunk-of-spec : {M : Type 1} → statement M
+unfolding slotOf numberOf same
 chunk-of-spec =
     tie.close
     (tie.spec

@@ -1,10 +1,12 @@
+use Rattle.text.specs.Text.{same}
+use Rattle.line.specs.Reading.{numberOf, slotOf}
 use Rattle.opening.specs.Chunk.{needed}
 use borrow.Author.Needs.{needs}
 use Rattle.opening.proofs.chunk.has_needed.Statement.{statement}
 use Rattle.opening.proofs.chunk.has_needed.Tie as tie
 
 returns : tie.Need-returns
-unfolding needed
+unfolding needed slotOf numberOf same
 returns c =
     let c3 = c .before .before .before in
     let c4 = c3 .before in
@@ -33,7 +35,7 @@ returns c =
     )
 
 returns-2 : tie.Need-returns-2
-unfolding needed
+unfolding needed slotOf numberOf same
 returns-2 c =
     let c3 = c .before .before .before in
     let c4 = c3 .before in
@@ -60,7 +62,7 @@ returns-2 c =
     )
 
 returns-3 : tie.Need-returns-3
-unfolding needed
+unfolding needed slotOf numberOf same
 returns-3 c =
     let c3 = c .before .before .before in
     let c4 = c3 .before in
@@ -83,7 +85,7 @@ returns-3 c =
     )
 
 returns-4 : tie.Need-returns-4
-unfolding needed
+unfolding needed slotOf numberOf same
 returns-4 c =
     let c3 = c .before .before .before in
     let c4 = c3 .before in
@@ -102,7 +104,7 @@ returns-4 c =
     )
 
 returns-5 : tie.Need-returns-5
-unfolding needed
+unfolding needed slotOf numberOf same
 returns-5 c =
     let c3 = c .before .before .before in
     let c4 = c3 .before in
@@ -117,13 +119,13 @@ returns-5 c =
     )
 
 returns-6 : tie.Need-returns-6
-unfolding needed
+unfolding needed slotOf numberOf same
 returns-6 c =
     let c3 = c .before .before .before in
     rw (← c3 .gives .ensures, c .before .before .if1 .taken, ← c .before .gives2 .ensures, c .if2 .left)
 
 returns-7 : tie.Need-returns-7
-unfolding needed
+unfolding needed slotOf numberOf same
 returns-7 c = rw (← c .before .gives .ensures, c .if1 .left)
 
 pub has-needed-spec : {M : Type 1} → statement M

@@ -1,14 +1,16 @@
+use Rattle.text.specs.Text.{same}
+use Rattle.line.specs.Reading.{numberOf, slotOf}
 use Rattle.opening.specs.Opening.{copyOf}
 use borrow.Author.Needs.{needs}
 use Rattle.opening.proofs.header.copy_of.Statement.{statement}
 use Rattle.opening.proofs.header.copy_of.Tie as tie
 
 returns : tie.Need-returns
-unfolding copyOf
+unfolding copyOf slotOf numberOf same
 returns c = rw (← c .before .is-format .ensures, c .if1 .left)
 
 returns-2 : tie.Need-returns-2
-unfolding copyOf
+unfolding copyOf slotOf numberOf same
 returns-2 c =
     let c3 = c .before .before .before in
     let c4 = c3 .before in
@@ -25,7 +27,7 @@ returns-2 c =
     )
 
 returns-3 : tie.Need-returns-3
-unfolding copyOf
+unfolding copyOf slotOf numberOf same
 returns-3 c =
     let c3 = c .before .before .before in
     let c4 = c3 .before in
@@ -40,7 +42,7 @@ returns-3 c =
     )
 
 returns-4 : tie.Need-returns-4
-unfolding copyOf
+unfolding copyOf slotOf numberOf same
 returns-4 c =
     let c3 = c .before .before .before in
     let c4 = c3 .before in
