@@ -6,29 +6,34 @@
 --   all-right   each gives what 01 says
 use Prim.Native.Nat.{ℕ}
 use mathlib.Core.Path.{_≡_, refl}
-use mathlib.Core.Bool.{Bool, true, false}
-use mathlib.Core.List.{List, [], _∷_}
+use mathlib.Core.List.{List, [], _∷_, _++_}
 use mathlib.Core.Option.{Option, none, some}
-use lib.IntN.{pos, negsuc}
 use Rattle.order.specs.declared.Order.{Order}
 use Rattle.order.specs.declared.Order.the-variants.{Less}
-use Rattle.text.specs.Text.{span, every, same}
+use Rattle.text.specs.Text.{span, every, same, split}
 use Rattle.fletcher.specs.Fletcher.{reduced, start, addWord, sums, fletcherOf}
 use Rattle.numeral.specs.declared.Numeral.{Numeral}
 use Rattle.numeral.specs.declared.Numeral.the-variants as numeral
 use Rattle.numeral.specs.Hex.{digitOf, hexFrom, shaped, hexOf}
+use Rattle.numeral.specs.BigEndian.{bigEndian, bigEndianAt}
 use Rattle.numeral.specs.Var.{continued, varFrom, limited, varAt}
 use Rattle.position.specs.declared.Bound.{Bound}
 use Rattle.position.specs.declared.Bound.the-variants.{Most, Unbounded}
 use Rattle.position.specs.Position.{chunkOf, offsetOf, codeOf, typeOf, boundOf, checkOf}
 use Rattle.line.specs.Field.{Field, fieldOf}
-use Rattle.line.specs.Fields.{lastComma, rightSum}
-use Rattle.key.specs.Key.{number, text, compareKeys}
+use Rattle.line.specs.Line.{trimmed, lineOf}
+use Rattle.line.specs.Fields.{has, valueIn, noneTwice, allFields, fieldsOf, readOf, lastComma, rightSum}
+use Rattle.line.specs.Reading.{numberOf, slotOf}
+use Rattle.key.specs.declared.Kind.the-variants.{Number}
+use Rattle.key.specs.Key.{text, keyOf, compareKeys}
 use Rattle.tree.specs.Page.{All}
+use Rattle.opening.specs.declared.header.Copy.{Copy}
+use Rattle.opening.specs.declared.header.Copy.the-variants.{Names, Plain, NoCopy}
+use Rattle.opening.specs.Image.{headerLine}
+use Rattle.opening.specs.Opening.{formatRight, namesAll, namesAny, copyOf}
 
 pub data Answer : Type 0 where
   numbers : List ℕ → Answer
-  truth : Bool → Answer
   order : Order → Answer
   refused : Answer
 
@@ -49,6 +54,12 @@ abbrev ofField : Option Field → Answer
 ofField none = refused
 ofField (some f) = numbers (f .value ∷ [])
 
+-- what a good copy says: block, chunk and version, or nothing
+abbrev ofCopy : Copy → Answer
+ofCopy NoCopy = refused
+ofCopy Plain = numbers []
+ofCopy (Names block chunk version) = numbers (block ∷ chunk ∷ version ∷ [])
+
 -- ## Texts
 -- `chunk:1,block:2,version:1`
 abbrev footer : List ℕ
@@ -64,14 +75,17 @@ headerText =
     101 ∷ 100 ∷ 58 ∷ 49 ∷ 52 ∷ 52 ∷ 49 ∷ 50 ∷ 51 ∷ 53 ∷ 101 ∷ 102 ∷ 55 ∷ 51 ∷ 44 ∷ 102 ∷ 111 ∷ 114 ∷ 109 ∷ 97 ∷
     116 ∷ 58 ∷ 49 ∷ 44 ∷ 118 ∷ 101 ∷ 114 ∷ 115 ∷ 105 ∷ 111 ∷ 110 ∷ 58 ∷ 55 ∷ []
 
--- `H:2,block:2,blockSize:1000,chunk:7,created:1441235ef73,format:1,version:7,fletcher:3044e6cc`
-abbrev headerLine : List ℕ
-headerLine =
-    72 ∷ 58 ∷ 50 ∷ 44 ∷ 98 ∷ 108 ∷ 111 ∷ 99 ∷ 107 ∷ 58 ∷ 50 ∷ 44 ∷ 98 ∷ 108 ∷ 111 ∷ 99 ∷ 107 ∷ 83 ∷ 105 ∷ 122 ∷
-    101 ∷ 58 ∷ 49 ∷ 48 ∷ 48 ∷ 48 ∷ 44 ∷ 99 ∷ 104 ∷ 117 ∷ 110 ∷ 107 ∷ 58 ∷ 55 ∷ 44 ∷ 99 ∷ 114 ∷ 101 ∷ 97 ∷ 116 ∷
-    101 ∷ 100 ∷ 58 ∷ 49 ∷ 52 ∷ 52 ∷ 49 ∷ 50 ∷ 51 ∷ 53 ∷ 101 ∷ 102 ∷ 55 ∷ 51 ∷ 44 ∷ 102 ∷ 111 ∷ 114 ∷ 109 ∷ 97 ∷
-    116 ∷ 58 ∷ 49 ∷ 44 ∷ 118 ∷ 101 ∷ 114 ∷ 115 ∷ 105 ∷ 111 ∷ 110 ∷ 58 ∷ 55 ∷ 44 ∷ 102 ∷ 108 ∷ 101 ∷ 116 ∷ 99 ∷ 104 ∷
-    101 ∷ 114 ∷ 58 ∷ 51 ∷ 48 ∷ 52 ∷ 52 ∷ 101 ∷ 54 ∷ 99 ∷ 99 ∷ []
+-- `,fletcher:3044e6cc` and a newline
+abbrev printed : List ℕ
+printed = 44 ∷ 102 ∷ 108 ∷ 101 ∷ 116 ∷ 99 ∷ 104 ∷ 101 ∷ 114 ∷ 58 ∷ 51 ∷ 48 ∷ 52 ∷ 52 ∷ 101 ∷ 54 ∷ 99 ∷ 99 ∷ 10 ∷ []
+
+-- `,fletcher:1a2bd87b` and a newline
+abbrev summed : List ℕ
+summed = 44 ∷ 102 ∷ 108 ∷ 101 ∷ 116 ∷ 99 ∷ 104 ∷ 101 ∷ 114 ∷ 58 ∷ 49 ∷ 97 ∷ 50 ∷ 98 ∷ 100 ∷ 56 ∷ 55 ∷ 98 ∷ 10 ∷ []
+
+-- eight times the byte x
+abbrev eight : ℕ → List ℕ
+eight x = x ∷ x ∷ x ∷ x ∷ x ∷ x ∷ x ∷ x ∷ []
 
 abbrev position : ℕ
 position = 0x4000004f8c
@@ -83,9 +97,10 @@ pub examples : List Example
 examples =
     -- (a) `chunk:1,block:2,version:1` sums to aed9a4f6
     example (numbers (fletcherOf footer ∷ [])) (numbers (0xaed9a4f6 ∷ [])) ∷
-    -- (b) the documents' file header line prints 3044e6cc; the rule gives 1a2bd87b, so that copy isn't good
+    -- (b) the documents' file header line prints 3044e6cc; the rule gives 1a2bd87b, so that copy isn't good; with that sum it is
     example (numbers (fletcherOf headerText ∷ [])) (numbers (0x1a2bd87b ∷ [])) ∷
-    example (truth (rightSum headerLine)) (truth false) ∷
+    example (ofCopy (copyOf (headerLine (headerText ++ printed) 0))) refused ∷
+    example (ofCopy (copyOf (headerLine (headerText ++ summed) 0))) (numbers (2 ∷ 7 ∷ 7 ∷ [])) ∷
     -- (c) the empty text sums to ffffffff
     example (numbers (fletcherOf [] ∷ [])) (numbers (0xffffffff ∷ [])) ∷
     -- (d) position 4000004f8c: chunk 1, offset 318, code 6, leaf, at most 256 bytes
@@ -102,8 +117,8 @@ examples =
     example (ofNumeral (varAt 0x80000000 (0x80 ∷ 1 ∷ []) 0)) (numbers (128 ∷ [])) ∷
     -- (h) `block:02` is no field
     example (ofField (fieldOf (98 ∷ 108 ∷ 111 ∷ 99 ∷ 107 ∷ 58 ∷ 48 ∷ 50 ∷ []))) refused ∷
-    -- (i) key -1 before 0
-    example (order (compareKeys (number (negsuc 0)) (number (pos 0)))) (order Less) ∷
+    -- (i) key -1 before 0, as the bytes of a page
+    example (order (compareKeys (keyOf Number (eight 0xff)) (keyOf Number (eight 0)))) (order Less) ∷
     -- (j) `ab` before `abc`
     example (order (compareKeys (text (97 ∷ 98 ∷ [])) (text (97 ∷ 98 ∷ 99 ∷ [])))) (order Less) ∷ []
 
@@ -111,6 +126,8 @@ abbrev pub Right : Example → Type 0
 Right e = e .given ≡ e .due
 
 pub all-right : All Right examples
-unfolding examples reduced start addWord sums fletcherOf lastComma rightSum fieldOf span every same digitOf hexFrom shaped hexOf continued varFrom limited varAt boundOf checkOf compareKeys
+unfolding examples reduced start addWord sums fletcherOf trimmed lineOf has valueIn noneTwice allFields fieldsOf readOf
+    lastComma rightSum numberOf slotOf fieldOf span every same split digitOf hexFrom shaped hexOf bigEndian bigEndianAt
+    continued varFrom limited varAt boundOf checkOf keyOf compareKeys headerLine formatRight namesAll namesAny copyOf
 all-right =
-    (refl, (refl, (refl, (refl, (refl, (refl, (refl, (refl, (refl, (refl, (refl, (refl, (refl, (refl, (refl, tt)))))))))))))))
+    (refl, (refl, (refl, (refl, (refl, (refl, (refl, (refl, (refl, (refl, (refl, (refl, (refl, (refl, (refl, (refl, tt))))))))))))))))
