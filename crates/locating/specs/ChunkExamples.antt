@@ -8,8 +8,7 @@ use Rattle.refusal.specs.Refusal.{Outcome, ok, refuse, notLocated, ninthQuestio
 use Rattle.order.specs.Order.{compareNat}
 use Rattle.tree.specs.Page.{branch, Children, last, more, Page, leaf, inner}
 use Rattle.tree.specs.Asking.{lookup, mapLookup}
-use Rattle.locating.specs.Locating.{Metadata, located, gate}
-use Rattle.locating.specs.Remembering.{Memory, told, lookupM, locateM}
+use Rattle.locating.specs.Locating.{Metadata, located}
 
 abbrev pub at : List (ℕ × Outcome (Page ℕ ℕ)) → ℕ → Outcome (Page ℕ ℕ)
 at [] p = refuse outOfPlace
@@ -69,14 +68,10 @@ pub nested-refused : located mixed 8 7 ≡ refuse badCheckValue
 unfolding located mapLookup lookup
 nested-refused = refl
 
-pub child-zero-refused-remembering : locateM mixed 64 8 [] 4 ≡ record { answer = refuse outOfPlace; kept = []; asks = 1 }
-unfolding locateM lookupM
-child-zero-refused-remembering = refl
-
 -- chunk 9's leaf stands in the newest, but the page above it in chunk 2
-pub ninth-needs-two : locateM mixed 64 8 [] 9 .answer ≡ ok (record { chunk = 9; place = 90; need = 2 })
-unfolding locateM lookupM
-ninth-needs-two = refl
+pub ninth-with-two-found : located mixed 2 9 ≡ ok 90
+unfolding located mapLookup lookup
+ninth-with-two-found = refl
 
 pub ninth-with-one-refused : located mixed 1 9 ≡ refuse ninthQuestion
 unfolding located mapLookup lookup
@@ -102,26 +97,3 @@ eight-suffice = refl
 pub nine-refused : located chain 8 1 ≡ refuse ninthQuestion
 unfolding located mapLookup lookup
 nine-refused = refl
-
--- ## The chain with a memory
-abbrev pub chunks : ℕ → ℕ → Memory ℕ
-chunks zero c = []
-chunks (suc n) c = record { chunk = c; place = 10 * c; need = suc n } ∷ chunks n (suc c)
-
-pub eight-kept : locateM chain 64 8 [] 2 ≡ record { answer = ok (record { chunk = 2; place = 20; need = 8 }); kept = chunks 8 2; asks = 8 }
-unfolding locateM lookupM
-eight-kept = refl
-
-pub recalled : locateM chain 64 8 (chunks 8 2) 2 ≡ told (ok (record { chunk = 2; place = 20; need = 8 })) (chunks 8 2)
-unfolding locateM lookupM gate
-recalled = refl
-
--- a remembered chunk is refused as it would be without the memory
-pub recalled-refused : locateM chain 64 7 (chunks 8 2) 2 ≡ told (refuse ninthQuestion) (chunks 8 2)
-unfolding locateM lookupM gate
-recalled-refused = refl
-
--- where there is no room, it is found again
-pub no-room : locateM chain 0 8 [] 2 ≡ record { answer = ok (record { chunk = 2; place = 20; need = 8 }); kept = []; asks = 8 }
-unfolding locateM lookupM
-no-room = refl

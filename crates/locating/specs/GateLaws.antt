@@ -1,4 +1,4 @@
--- Answers that take a number of questions: `gate n r o` is refusal 6 where r is askedBelow n, and o elsewhere.
+-- Answers that take a number of questions: `gate n r o` is refusal 6 where r is below n, and o elsewhere.
 --
 --   gate-X, gated-X      one number of questions; every number of questions
 use Prim.Native.Nat.{ℕ, suc, _<_, _≤_, max}
@@ -13,7 +13,7 @@ use Rattle.locating.specs.Locating.{gate}
 use Rattle.locating.specs.Known.{Gated}
 
 module _ {A : Type 0} (n r : ℕ) (o : Outcome A) where
-  pub gate-open : n ≤ r → gate n r o ≡ o
+  gate-open : n ≤ r → gate n r o ≡ o
   unfolding gate
   gate-open h = rw (le-ltb r n h)
 
@@ -25,10 +25,10 @@ module _ {A : Type 0} (n r : ℕ) (o : Outcome A) where
   unfolding gate
   gate-suc = rw (leb·suc-suc (suc r) n)
 
-pub gate-zero : {A : Type 0} (r : ℕ) (o : Outcome A) → gate 0 r o ≡ o
+gate-zero : {A : Type 0} (r : ℕ) (o : Outcome A) → gate 0 r o ≡ o
 gate-zero r o = gate-open 0 r o (omega arith)
 
-pub gate-max : {A : Type 0} (n k r : ℕ) (o : Outcome A) → gate n r (gate k r o) ≡ gate (max n k) r o
+gate-max : {A : Type 0} (n k r : ℕ) (o : Outcome A) → gate n r (gate k r o) ≡ gate (max n k) r o
 gate-max n k r o = go (ltb r n) refl (ltb r k) refl
   where
     go : (s : Bool) → ltb r n ≡ s → (t : Bool) → ltb r k ≡ t → gate n r (gate k r o) ≡ gate (max n k) r o
@@ -42,7 +42,7 @@ gate-max n k r o = go (ltb r n) refl (ltb r k) refl
             gate-open k r o (ltb-false r k f) ∙ sym (gate-open (max n k) r o h)
 
 -- what hands refusal 6 up unchanged goes through
-pub gate-through : {A B : Type 0} (f : Outcome A → Outcome B) → f (refuse ninthQuestion) ≡ refuse ninthQuestion
+gate-through : {A B : Type 0} (f : Outcome A → Outcome B) → f (refuse ninthQuestion) ≡ refuse ninthQuestion
     → (n r : ℕ) (o : Outcome A) → f (gate n r o) ≡ gate n r (f o)
 unfolding gate
 gate-through f h n r o = go (ltb r n)

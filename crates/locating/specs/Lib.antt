@@ -1,12 +1,5 @@
 pub mod Locating
-pub mod Remembering
 pub mod ChunkExamples
 pub mod Known
 pub mod GateLaws
 pub mod StepLaws
-pub mod SettledLaws
-pub mod Courses
-pub mod CourseLaws
-pub mod RememberLaws
-pub mod CostLaws
-pub mod DistinctLaws

@@ -32,14 +32,14 @@ module _ {K W L : Type 0} (m : Metadata K W L) {c : ℕ} where
     unfolding located
     ninth-refused = rw (ne-eqb c (m .newest) other)
 
-    pub located-asked : (r : ℕ) → located m (suc r) c ≡ placed m c (asked m (m .keyOf c) r)
+    located-asked : (r : ℕ) → located m (suc r) c ≡ placed m c (asked m (m .keyOf c) r)
     unfolding located
     located-asked r = rw (ne-eqb c (m .newest) other)
 
     pub asked-refused : (q : ℕ) {x : Refusal} → asked m (m .keyOf c) q ≡ refuse x → located m (suc q) c ≡ refuse x
     asked-refused q e = located-asked q ∙ ap (placed m c) e
 
-    pub asked-known : {n : ℕ} {a : Outcome (Option W)} → Gated n (asked m (m .keyOf c)) (λ r. a)
+    asked-known : {n : ℕ} {a : Outcome (Option W)} → Gated n (asked m (m .keyOf c)) (λ r. a)
         → Gated (suc n) (λ r. located m r c) (λ r. placed m c a)
     asked-known {n} {a} e = record { with = go }
       where
@@ -60,26 +60,18 @@ module _ {K W L : Type 0} (m : Metadata K W L) (pageIn : L → ℕ → Outcome (
   page-zero e r = rw (eq-eqb p 0 e)
 
   module _ (other : ¬ (p ≡ 0)) where
-    pub page-located : (r : ℕ) → readWith m pageIn r p ≡ bind (located m r (m .chunkOf p)) (λ l. pageIn l p)
+    page-located : (r : ℕ) → readWith m pageIn r p ≡ bind (located m r (m .chunkOf p)) (λ l. pageIn l p)
     page-located r = rw (ne-eqb p 0 other)
 
     pub page-refused : (r : ℕ) {x : Refusal} → located m r (m .chunkOf p) ≡ refuse x → readWith m pageIn r p ≡ refuse x
     page-refused r e = page-located r ∙ rw e
 
-    pub page-gated : {n : ℕ} {o : Outcome L} → Gated n (λ r. located m r (m .chunkOf p)) (λ r. o)
-        → Gated n (λ r. readWith m pageIn r p) (λ r. bind o (λ l. pageIn l p))
-    page-gated e =
+    pub page-known : {l : L} {n : ℕ} → Known m (m .chunkOf p) l n → Gated n (λ r. readWith m pageIn r p) (λ r. pageIn l p)
+    page-known e =
         let d = gated-through e (λ r o. bind o (λ l. pageIn l p)) (λ r. refl) in
         record { with = λ r. page-located r ∙ d .with r }
 
-    pub page-known : {l : L} {n : ℕ} → Known m (m .chunkOf p) l n → Gated n (λ r. readWith m pageIn r p) (λ r. pageIn l p)
-    page-known e = page-gated e
-
 -- ## A descent
--- the metadata is one of these maps
-pub asked-metadata : {K W L : Type 0} (m : Metadata K W L) (k : K) (r : ℕ) → asked m k r ≡ askedIn m (m .pageIn) (m .root) k r
-asked-metadata m k r = refl
-
 module _ {K W L : Type 0} (m : Metadata K W L) (pageIn : L → ℕ → Outcome (Page K W)) (root : ℕ) (k : K) where
   pub empty-found : root ≡ 0 → (r : ℕ) → askedIn m pageIn root k r ≡ ok none
   unfolding mapLookup
@@ -103,7 +95,7 @@ module _ {K W L : Type 0} (m : Metadata K W L) (pageIn : L → ℕ → Outcome (
       unfolding lookup
       descent-refused q h d = gated-open e q h ∙ ap (lookupPage (m .compare) k (λ c. askedBelow m pageIn k levels c q)) d
 
-      pub descent-page : {j : ℕ} {o : Outcome (Page K W)} → Gated j (λ r. readWith m pageIn r p) (λ r. o)
+      descent-page : {j : ℕ} {o : Outcome (Page K W)} → Gated j (λ r. readWith m pageIn r p) (λ r. o)
           → Gated (max n j) (askedIn m pageIn root k) (λ r. lookupPage (m .compare) k (λ c. askedBelow m pageIn k levels c r) o)
       unfolding lookup
       descent-page d = gated-then e (gated-through d (λ r. lookupPage (m .compare) k (λ c. askedBelow m pageIn k levels c r)) (λ r. refl))
