@@ -8,14 +8,24 @@
 --   places ws                      how many chunks the words have room for: two words each
 --   chunkIn w, placeIn w v, needIn w    what two words hold
 --   firstWord, secondWord          the words of a chunk
---   soughtIn ws c                  the first place that is free or holds a chunk whose id is not below c, by halving
---   recalledIn ws c                what is remembered of chunk c, or the place where it belongs
+--   HeldIn ws c l need             some place of the words holds chunk c, that it stands at l, and that need
+--   Holds P ws                     P is true of each chunk that the words hold, its place and its need
+--   fullIn ws                      the last place is taken, or there is no place
+--   soughtIn ws c                  a place that is free or holds a chunk whose id is not below c, by halving
+--   recalledIn ws c                what is remembered of chunk c, or a place to put it
 --   insertedAt ws i w v            two words put at place i, what was there and after it one place on
 --   rememberedIn ws c l need       the words with chunk c, where there is room
---   Holds P ws                     P is true of each chunk that the words hold, its place and its need
+--
+-- That these say what a memory is for is stated in WordsLaws, of any words:
+--
+--   recalled-was-held              what is recalled of a chunk, the words hold
+--   remembered-keeps               what the words held, they hold with a chunk more
+--   remembered-only-adds           they hold nothing else, but for that chunk
+--   remembered-adds                and that chunk, where a place was offered for it
+--   remembered-length              they are as many as before
 use Prim.Native.Nat.{ℕ, zero, suc, _+_, _*_, _-_, _/_, _%_, _<_}
 use mathlib.Core.Path.{_≡_}
-use mathlib.Core.Bool.{Bool, false, cond}
+use mathlib.Core.Bool.{Bool, true, false, cond, not}
 use mathlib.Core.List.{List}
 use lib.Dec.{eqb, ltb}
 use lib.ListN.{length, getD, set}
@@ -41,6 +51,20 @@ firstWord c l need = c * 0x100000000 + (l .block % 0x10000000 * 16 + need % 16)
 abbrev pub secondWord : Place → ℕ
 secondWord l = l .len * 0x100000000 + l .first
 
+-- ## What the words hold
+-- two words are those of a chunk, its place and its need
+abbrev pub HeldBy : ℕ → ℕ → ℕ → Place → ℕ → Type 0
+HeldBy w v c l need = ¬ (w ≡ 0) × (chunkIn w ≡ c) × (placeIn w v ≡ l) × (needIn w ≡ need)
+
+abbrev pub HeldIn : List ℕ → ℕ → Place → ℕ → Type 0
+HeldIn ws c l need = (i : ℕ) × (i < places ws) × HeldBy (getD ws (2 * i) 0) (getD ws (2 * i + 1) 0) c l need
+
+abbrev pub Holds : (ℕ → Place → ℕ → Type 0) → List ℕ → Type 0
+Holds P ws = (c : ℕ) (l : Place) (need : ℕ) → HeldIn ws c l need → P c l need
+
+unfoldable pub fullIn : List ℕ → Bool
+fullIn ws = cond (eqb (places ws) 0) true (not (eqb (getD ws (2 * places ws - 2) 0) 0))
+
 -- ## Finding a chunk
 unfoldable pub belowIn : ℕ → ℕ → Bool
 belowIn w c = cond (eqb w 0) false (ltb (chunkIn w) c)
@@ -63,7 +87,7 @@ recalledAt i ws c =
     let w = getD ws (2 * i) 0 in
     cond (ltb i (places ws))
     (cond (cond (eqb w 0) false (eqb (chunkIn w) c)) (At (placeIn w (getD ws (2 * i + 1) 0)) (needIn w))
-    (cond (eqb (getD ws (2 * places ws - 2) 0) 0) (Free i) Full))
+    (cond (fullIn ws) Full (Free i)))
     Full
 
 abbrev pub recalledIn : List ℕ → ℕ → Recalled
@@ -90,10 +114,3 @@ rememberedBy ws c l need Full = ws
 
 unfoldable pub rememberedIn : List ℕ → ℕ → Place → ℕ → List ℕ
 rememberedIn ws c l need = rememberedBy ws c l need (recalledIn ws c)
-
--- ## What is true of the chunks that the words hold
-abbrev pub HoldsAt : (ℕ → Place → ℕ → Type 0) → ℕ → ℕ → Type 0
-HoldsAt P w v = (w ≡ 0 → ⊥) → P (chunkIn w) (placeIn w v) (needIn w)
-
-abbrev pub Holds : (ℕ → Place → ℕ → Type 0) → List ℕ → Type 0
-Holds P ws = (i : ℕ) → i < places ws → HoldsAt P (getD ws (2 * i) 0) (getD ws (2 * i + 1) 0)

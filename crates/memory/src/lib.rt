@@ -1,10 +1,10 @@
 // What a call remembers of the chunks that it located: two words for each, in an array of the call's
-// own. The places taken come first, in the order of their chunks' ids, so that
-// a chunk is found by halving whatever the ids are; a free place is 0. No chunk is forgotten while
-// there is room, and none is kept after that.
+// own. The places taken come first, in the order of their chunks' ids, so that a chunk is found by
+// halving; a free place is 0. What is recalled was remembered, and no chunk is forgotten; where there is
+// no room, none is added.
 use page::Place;
 ghost use mathlib.Core.Path.{_≡_};
-ghost use Rattle.memory.specs.Words.{belowIn, placeIn, soughtIn, recalledAt, recalledIn, insertedAt, rememberedIn};
+ghost use Rattle.memory.specs.Words.{placeIn, fullIn, belowIn, soughtIn, recalledAt, recalledIn, insertedAt, rememberedIn};
 
 // As many halvings as any array needs.
 const HALVINGS: u32 = 64;
@@ -26,6 +26,17 @@ fn place_in(w: u64, v: u64) -> Place
     }
 }
 
+// Whether the last place is taken, or there is no place.
+pub fn is_full(memory: &[u64]) -> bool
+    ensures { λ r. ⌜ r ≡ fullIn (now (memory .entry)) ⌝ }
+{
+    let n = memory.len() / 2;
+    if n == 0 {
+        return true;
+    }
+    memory[2 * n - 2] != 0
+}
+
 // Whether the word is of a chunk whose id is below `c`.
 fn is_below(w: u64, c: u32) -> bool
     ensures { λ r. ⌜ r ≡ belowIn w c ⌝ }
@@ -36,8 +47,8 @@ fn is_below(w: u64, c: u32) -> bool
     w / 4294967296 < c as u64
 }
 
-// The first place that is free or holds a chunk whose id is not below `c`.
-pub fn seek(memory: &[u64], c: u32) -> usize
+// A place that is free or holds a chunk whose id is not below `c`, by halving.
+fn seek(memory: &[u64], c: u32) -> usize
     ensures { λ r. ⌜ r ≡ soughtIn (now (memory .entry)) c ⌝ }
 {
     let mut low = 0;
@@ -59,11 +70,10 @@ pub fn seek(memory: &[u64], c: u32) -> usize
 }
 
 // What the place numbered `i` says of chunk `c`.
-pub fn recall_at(memory: &[u64], i: usize, c: u32) -> Recalled
+fn recall_at(memory: &[u64], i: usize, c: u32) -> Recalled
     ensures { λ r. ⌜ r ≡ recalledAt i (now (memory .entry)) c ⌝ }
 {
-    let n = memory.len() / 2;
-    if n <= i {
+    if memory.len() / 2 <= i {
         return Recalled::Full;
     }
     let w = memory[2 * i];
@@ -75,13 +85,13 @@ pub fn recall_at(memory: &[u64], i: usize, c: u32) -> Recalled
             };
         }
     }
-    if memory[2 * n - 2] != 0 {
+    if is_full(memory) {
         return Recalled::Full;
     }
     Recalled::Free(i)
 }
 
-// What is remembered of chunk `c`, or the place where it belongs.
+// What is remembered of chunk `c`, or a place to put it.
 pub fn recall(memory: &[u64], c: u32) -> Recalled
     ensures { λ r. ⌜ r ≡ recalledIn (now (memory .entry)) c ⌝ }
 {

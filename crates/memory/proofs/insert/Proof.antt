@@ -5,7 +5,7 @@ use borrow.Author.Needs.{needs}
 use denote.Ref.{now}
 use lib.ListN.{length, length-set}
 use Rattle.memory.specs.Words.{places, insertedFrom, insertedAt}
-use Rattle.memory.specs.WordsLaws.{inserted-none, inserted-last, inserted-on, pair-length}
+use Rattle.memory.specs.WayLaws.{inserted-none, inserted-last, inserted-on, pair-length}
 use Rattle.memory.proofs.insert.Statement.{statement}
 use Rattle.memory.proofs.insert.Tie as tie
 

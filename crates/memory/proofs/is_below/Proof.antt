@@ -1,5 +1,5 @@
 use mathlib.Core.Path.{sym}
-use Rattle.memory.specs.WordsLaws.{below-free, below-taken}
+use Rattle.memory.specs.WayLaws.{below-free, below-taken}
 use Rattle.memory.proofs.is_below.Statement.{statement}
 use Rattle.memory.proofs.is_below.Tie as tie
 

@@ -1,8 +1,8 @@
-use mathlib.Core.Path.{sym}
+use mathlib.Core.Path.{sym, _∙_}
 use mathlib.Core.Logic.{⊎-elim}
 use borrow.Author.Needs.{needs}
 use denote.Ref.{now}
-use Rattle.memory.specs.WordsLaws.{recalled-past, recalled-this, recalled-room, recalled-full, other-free, other-chunk}
+use Rattle.memory.specs.WayLaws.{recalled-past, recalled-this, recalled-room, recalled-full, other-free, other-chunk}
 use Rattle.memory.proofs.recall_at.Statement.{statement}
 use Rattle.memory.proofs.recall_at.Tie as tie
 
@@ -26,7 +26,7 @@ returns-3 c =
     ⊎-elim (λ t. other-chunk (now (a .memory)) (a .c) (a .i) (t .0 .taken) (t .1 .left))
     (λ t. other-free (now (a .memory)) (a .c) (a .i) (t .left))
     (c .before .before .if2 .came) in
-    (sym (recalled-full (now (a .memory)) (a .c) (a .i) inside other (c .if4 .taken)))
+    sym (recalled-full (now (a .memory)) (a .c) (a .i) inside other (sym (c .before .is-full .ensures) ∙ c .if4 .taken))
 
 returns-4 : tie.Need-returns-4
 returns-4 c =
@@ -36,7 +36,7 @@ returns-4 c =
     ⊎-elim (λ t. other-chunk (now (a .memory)) (a .c) (a .i) (t .0 .taken) (t .1 .left))
     (λ t. other-free (now (a .memory)) (a .c) (a .i) (t .left))
     (c .before .before .if2 .came) in
-    (sym (recalled-room (now (a .memory)) (a .c) (a .i) inside other (c .if4 .left)))
+    sym (recalled-room (now (a .memory)) (a .c) (a .i) inside other (sym (c .before .is-full .ensures) ∙ c .if4 .left))
 
 pub recall-at-spec : {M : Type 1} → statement M
 recall-at-spec =
@@ -53,9 +53,6 @@ recall-at-spec =
     (λ c κs. search needs)
     (λ c. search needs)
     returns-2
-    (λ c. search needs)
-    (λ c. search needs)
-    (λ c. search needs)
-    (λ c. search needs)
+    (λ c κs. search needs)
     returns-3
     returns-4)

@@ -5,7 +5,7 @@ use native.Mathlib.Omega.{arith}
 use borrow.Author.Needs.{needs}
 use denote.Ref.{now}
 use Rattle.memory.specs.Words.{places, soughtFrom, soughtIn}
-use Rattle.memory.specs.WordsLaws.{sought-none, sought-met, sought-above, sought-below}
+use Rattle.memory.specs.WayLaws.{sought-none, sought-met, sought-above, sought-below}
 use Rattle.memory.proofs.seek.Statement.{statement}
 use Rattle.memory.proofs.seek.Tie as tie
 
