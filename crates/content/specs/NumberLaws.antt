@@ -1,6 +1,6 @@
 -- Children and entries by their number.
 --
---   entryOf k v    the entry with the key at k and the value at v
+--   entryOf k v    the entry with the key k and the value v
 use Prim.Native.Nat.{ℕ, zero, suc, _+_, _*_, _≤_, _<_}
 use mathlib.Core.Path.{_≡_, refl, _∙_, ap}
 use mathlib.Core.List.{List, [], _∷_, map}
@@ -15,7 +15,9 @@ use Rattle.key.specs.declared.Kind.{Kind}
 use Rattle.item.specs.declared.Form.the-variants.{Word}
 use Rattle.item.specs.Step.{Step, got, bad, onStep, upTo}
 use Rattle.item.specs.StepLaws.{upTo-bad}
-use Rattle.item.specs.Item.{Spot, items}
+use Rattle.item.specs.declared.Numbered.{Numbered}
+use Rattle.item.specs.declared.Numbered.the-variants as numbered
+use Rattle.item.specs.Item.{Spot, items, numberedOf}
 use Rattle.item.specs.ItemLaws.{word-fits, word-bad}
 use Rattle.content.specs.declared.Nth.{Nth}
 use Rattle.content.specs.declared.Nth.the-variants as nth
@@ -58,19 +60,19 @@ module _ (s : List ℕ) where
       go false e ih = rw (positions-bad (suc n) i (leb-false (i + 8) (length s) e))
 
 -- ## An entry
-abbrev pub entryOf : Option Spot → Option Spot → Nth
-entryOf (some k) (some v) = nth.Entry (k .at) (k .len) (v .at) (v .len)
-entryOf (some k) none = nth.Out
-entryOf none v = nth.Out
+abbrev pub entryOf : Numbered → Numbered → Nth
+entryOf (numbered.At key size) (numbered.At at len) = nth.Entry key size at len
+entryOf (numbered.At key size) numbered.Out = nth.Out
+entryOf numbered.Out v = nth.Out
 
 pub paired-nth : (s : List ℕ) (kind : Kind) (ks vs : List Spot) (k : ℕ)
-    → nthOf (getElem? (paired s kind ks vs) k) ≡ entryOf (getElem? ks k) (getElem? vs k)
+    → nthOf (getElem? (paired s kind ks vs) k) ≡ entryOf (numberedOf (getElem? ks k)) (numberedOf (getElem? vs k))
 unfolding paired
 paired-nth s kind [] vs k = refl
 paired-nth s kind (a ∷ ks) [] zero = refl
 paired-nth s kind (a ∷ ks) [] (suc k) = go (getElem? ks k)
   where
-    go : (o : Option Spot) → nth.Out ≡ entryOf o none
+    go : (o : Option Spot) → nth.Out ≡ entryOf (numberedOf o) numbered.Out
     go (some x) = refl
     go none = refl
 paired-nth s kind (a ∷ ks) (b ∷ vs) zero = refl

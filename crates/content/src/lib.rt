@@ -4,6 +4,7 @@ mod numbers;
 mod texts;
 
 use item::Form;
+use item::Numbered;
 use key::Kind;
 use key::Sized;
 use numeral::Numeral;
@@ -153,16 +154,11 @@ pub fn entry(s: &[u8], kind: Kind, n: u32, keys: usize, values: usize, k: u64) -
     ensures { λ r. ⌜ r ≡ nthOf (getElem? (entriesIn (now (s .entry)) kind n keys values) k) ⌝ }
 {
     let a = item::nth_item(s, page::key_form(kind), n as u64, keys, k);
-    let Sized::At {
-        at: key,
-        len: size,
-        next: _,
-    } = a
-    else {
+    let Numbered::At { at: key, len: size } = a else {
         return Nth::Out;
     };
     let b = item::nth_item(s, Form::Bytes, n as u64, values, k);
-    let Sized::At { at, len, next: _ } = b else {
+    let Numbered::At { at, len } = b else {
         return Nth::Out;
     };
     Nth::Entry { key, size, at, len }

@@ -24,6 +24,8 @@ use Rattle.item.specs.declared.Form.{Form}
 use Rattle.item.specs.declared.Form.the-variants.{Word, Text, Bytes}
 use Rattle.item.specs.declared.Skip.{Skip}
 use Rattle.item.specs.declared.Skip.the-variants as skip
+use Rattle.item.specs.declared.Numbered.{Numbered}
+use Rattle.item.specs.declared.Numbered.the-variants as numbered
 use Rattle.item.specs.declared.Counted.{Counted}
 use Rattle.item.specs.declared.Counted.the-variants as sums
 use Rattle.item.specs.Step.{Step, got, bad, after}
@@ -61,9 +63,9 @@ countAt s c =
     onNumeral (varAt countLimit s (c .0)) bad (λ v next. cond (ltb (c .1 + v) countLimit) (got v (next, c .1 + v)) bad)
 
 -- ## What the code hands back
-abbrev pub spotOf : Sized → Option Spot
-spotOf (At at len next) = some (record { at = at; len = len })
-spotOf Bad = none
+abbrev pub numberedOf : Option Spot → Numbered
+numberedOf (some p) = numbered.At (p .at) (p .len)
+numberedOf none = numbered.Out
 
 abbrev pub skipOf : Option ℕ → Skip
 skipOf (some i) = skip.Past i

@@ -9,16 +9,15 @@ use borrow.Author.Tests.{le-leb, lt-leb, leb-true, leb-false}
 use lib.Dec.{leb}
 use lib.ListN.{length, getElem?}
 use Rattle.key.specs.declared.Kind.the-variants.{Number, Text}
-use Rattle.key.specs.declared.sized.Sized.{Sized}
 use Rattle.key.specs.declared.sized.Sized.the-variants.{At, Bad}
 use Rattle.key.specs.Key.{keyAt}
 use Rattle.key.specs.SizedLaws.{Lies, sized-lies, key-lies}
 use Rattle.item.specs.declared.Form.{Form}
 use Rattle.item.specs.declared.Form.the-variants as form
 use Rattle.item.specs.declared.Skip.the-variants.{Past, Stuck}
-use Rattle.item.specs.Step.{got, bad, onStep, after, upTo}
+use Rattle.item.specs.Step.{got, bad, after, upTo}
 use Rattle.item.specs.StepLaws.{onSome, after-more, after-bad, upTo-length, upTo-nth, itemOf}
-use Rattle.item.specs.Item.{onSized, itemAt, items, valueLimit, spotOf, skipOf, skipped}
+use Rattle.item.specs.Item.{itemAt, items, valueLimit, skipOf, skipped}
 
 -- ## One step of a form
 module _ (s : List ℕ) (f : Form) where
@@ -63,17 +62,23 @@ module _ (s : List ℕ) (f : Form) (n at k : ℕ) (h : k < n) where
       go (some j) q = absurd (let z : _≡_ {A = ℕ} 0 1 = cc in omega arith)
       go none q = refl
 
-  pub nth-past : {i : ℕ} → skipped s f k at ≡ Past i → getElem? (upTo (items s f) n at) k ≡ spotOf (itemAt s f i)
-  unfolding skipped items itemOf
-  nth-past {i} e = upTo-nth (items s f) n k at h ∙ go (after (items s f) k at) e ∙ by (itemAt s f i)
-    where
-      go : (o : Option ℕ) → skipOf o ≡ Past i → onSome o none (itemOf (items s f)) ≡ itemOf (items s f) i
-      go (some j) q = ap (itemOf (items s f)) cc
-      go none q = absurd (let z : _≡_ {A = ℕ} 0 1 = cc in omega arith)
+  module _ {i : ℕ} (e : skipped s f k at ≡ Past i) where
+    nth-past : getElem? (upTo (items s f) n at) k ≡ itemOf (items s f) i
+    unfolding skipped
+    nth-past = upTo-nth (items s f) n k at h ∙ go (after (items s f) k at) e
+      where
+        go : (o : Option ℕ) → skipOf o ≡ Past i → onSome o none (itemOf (items s f)) ≡ itemOf (items s f) i
+        go (some j) q = ap (itemOf (items s f)) cc
+        go none q = absurd (let z : _≡_ {A = ℕ} 0 1 = cc in omega arith)
 
-      by : (it : Sized) → onStep (onSized it bad (λ at len next. got (record { at = at; len = len }) next)) none (λ a d. some a) ≡ spotOf it
-      by (At at len next) = refl
-      by Bad = refl
+    pub nth-at : {start len next : ℕ} → itemAt s f i ≡ At start len next
+        → getElem? (upTo (items s f) n at) k ≡ some (record { at = start; len = len })
+    unfolding itemOf
+    nth-at q = nth-past ∙ rw (items-at s f i q)
+
+    pub nth-bad : itemAt s f i ≡ Bad → getElem? (upTo (items s f) n at) k ≡ none
+    unfolding itemOf
+    nth-bad q = nth-past ∙ rw (items-bad s f i q)
 
 -- ## Words lie one after another
 module _ (s : List ℕ) where

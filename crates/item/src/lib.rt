@@ -6,7 +6,7 @@ use numeral::Numeral;
 ghost use mathlib.Core.Path.{_≡_};
 ghost use lib.ListN.{getD, getElem?};
 ghost use Rattle.item.specs.Step.{upTo};
-ghost use Rattle.item.specs.Item.{itemAt, items, countAt, spotOf, skipped, counted};
+ghost use Rattle.item.specs.Item.{itemAt, items, countAt, numberedOf, skipped, counted};
 
 // How an item is written: 8 bytes; a text key; a length and bytes.
 pub enum Form {
@@ -21,6 +21,12 @@ pub enum Skip {
     Stuck,
 }
 
+// An item by place and length.
+pub enum Numbered {
+    At { at: usize, len: usize },
+    Out,
+}
+
 // The sum of some recorded counts, and the place after them.
 pub enum Counted {
     Sum { total: u64, next: usize },
@@ -28,7 +34,7 @@ pub enum Counted {
 }
 
 // A value's length is below this.
-pub const VALUE_LIMIT: u64 = 65536;
+const VALUE_LIMIT: u64 = 65536;
 
 // Recorded counts, and their sum, are below this: 2^48.
 pub const COUNT_LIMIT: u64 = 281474976710656;
@@ -116,17 +122,25 @@ pub fn skip_items(s: &[u8], form: Form, n: u64, at: usize) -> Skip
 }
 
 // Item number `k` of `n`, from 0.
-pub fn nth_item(s: &[u8], form: Form, n: u64, at: usize, k: u64) -> Sized
-    ensures { λ r. ⌜ spotOf r ≡ getElem? (upTo (items (now (s .entry)) form) n at) k ⌝ }
+pub fn nth_item(s: &[u8], form: Form, n: u64, at: usize, k: u64) -> Numbered
+    ensures { λ r. ⌜ r ≡ numberedOf (getElem? (upTo (items (now (s .entry)) form) n at) k) ⌝ }
 {
     if n <= k {
-        return Sized::Bad;
+        return Numbered::Out;
     }
     let a = skip_items(s, form, k, at);
     let Skip::Past(i) = a else {
-        return Sized::Bad;
+        return Numbered::Out;
     };
-    item_at(s, form, i)
+    let it = item_at(s, form, i);
+    match it {
+        Sized::At {
+            at: start,
+            len,
+            next: _,
+        } => Numbered::At { at: start, len },
+        Sized::Bad => Numbered::Out,
+    }
 }
 
 // The sum of `n` recorded counts, each of which keeps it below 2^48, and the place after them.
