@@ -2,13 +2,12 @@
 --
 --   Within m h         of a head that is not refused: its numbers, in an image of length m
 --   head-body          a page's items begin inside the page, the page ends inside the image, and its keys are fewer than 2^31
---   judged-head-..     what a page is judged to be, by its head
 use Prim.Native.Nat.{ℕ, _+_, _-_, _^_, _<_, _≤_}
 use mathlib.Core.Path.{_≡_, refl}
 use mathlib.Core.List.{List}
 use mathlib.Core.Bool.{Bool, true, false, cond, _&&_, and-false}
 use native.Mathlib.Omega.{arith}
-use borrow.Author.Tests.{leb-true, lt-leb, ltb-true, eq-eqb, ne-eqb}
+use borrow.Author.Tests.{leb-true, lt-leb, ltb-true}
 use lib.Dec.{eqb, ltb, leb}
 use lib.ListN.{length, getD, take, length-take}
 use Rattle.refusal.specs.declared.Refusal.{Refusal}
@@ -18,15 +17,12 @@ use Rattle.numeral.specs.BigEndian.{bigEndianAt}
 use Rattle.numeral.specs.Var.{varAt}
 use Rattle.numeral.specs.VarLaws.{varAt-read}
 use Rattle.position.specs.Position.{chunkOf, offsetOf, codeOf, typeOf, checkOf}
-use Rattle.key.specs.declared.Kind.{Kind}
 use Rattle.item.specs.Item.{onNumeral}
 use Rattle.page.specs.declared.Place.{Place}
 use Rattle.page.specs.declared.Head.{Head}
 use Rattle.page.specs.declared.Head.the-variants.{Body}
 use Rattle.page.specs.declared.Head.the-variants as head
-use Rattle.page.specs.declared.Judged.the-variants.{Refused}
-use Rattle.page.specs.Judged.{startOf, footerAt, begins, lengthFits, keyForm}
-use Rattle.page.specs.Judged.{leafAt, innerAt, fieldsAt, headAt, judgedAt}
+use Rattle.page.specs.Judged.{startOf, footerAt, begins, lengthFits, fieldsAt, headAt}
 
 and-right : (a b : Bool) → (a && b) ≡ true → b ≡ true
 and-right true b e = e
@@ -80,18 +76,3 @@ module _ (image : List ℕ) (c : Place) (p map : ℕ) where
 
   pub head-body : {n at e : ℕ} → headAt image c p map ≡ Body n at e → (n < 2 ^ 31) × (at ≤ e) × (e ≤ length image)
   head-body h = rw h at head-within
-
-  -- ## A page by its head
-  module _ (kind : Kind) where
-    pub judged-head-refused : {r : Refusal} → headAt image c p map ≡ head.Refused r → judgedAt image c p map kind ≡ Refused r
-    unfolding judgedAt
-    judged-head-refused h = rw h
-
-    module _ {n at e : ℕ} (h : headAt image c p map ≡ Body n at e) where
-      pub judged-head-leaf : typeOf p ≡ 0 → judgedAt image c p map kind ≡ leafAt (take e image) (keyForm kind) n at
-      unfolding judgedAt
-      judged-head-leaf t = rw (h, eq-eqb (typeOf p) 0 t)
-
-      pub judged-head-inner : ¬ (typeOf p ≡ 0) → judgedAt image c p map kind ≡ innerAt (take e image) (keyForm kind) n at
-      unfolding judgedAt
-      judged-head-inner t = rw (h, ne-eqb (typeOf p) 0 t)

@@ -1,6 +1,6 @@
 -- What is known of a page that is judged and not refused. s is the image up to its end.
 --
---   LeafPassed, InnerPassed    its parts follow one another, and nothing is left over
+--   LeafPassed, InnerPassed    its parts follow one another, up to its end
 --   Passed image kind j        the same of what a page was judged to be
 use Prim.Native.Nat.{ℕ, zero, suc, _+_, _-_, _^_, _<_}
 use mathlib.Core.Path.{_≡_, refl, ap}
@@ -32,14 +32,12 @@ pub record LeafPassed (s : List ℕ) (kind : Kind) (n keys values e : ℕ) : Typ
   pub few : n < 2 ^ 31
   pub key-items : skipped s (keyForm kind) n keys ≡ skip.Past values
   pub value-items : skipped s Bytes n values ≡ skip.Past e
-  pub nothing-left : e ≡ length s
 
 pub record InnerPassed (s : List ℕ) (kind : Kind) (n positions counts keys e total : ℕ) : Type 0 where
   pub few : n < 2 ^ 31
   pub position-items : skipped s Word (n + 1) positions ≡ skip.Past counts
   pub count-items : counted s (n + 1) counts ≡ sums.Sum total keys
   pub key-items : skipped s (keyForm kind) n keys ≡ skip.Past e
-  pub nothing-left : e ≡ length s
 
 abbrev pub Passed : List ℕ → Kind → Judged → Type 0
 Passed image kind (Refused r) = Unit {0}
@@ -78,7 +76,7 @@ module _ (image : List ℕ) (kind : Kind) where
           skip-passed (skipped s (keyForm kind) n keys) _ (λ values p.
           skip-passed (skipped s Bytes n values) _ (λ e q.
           cond-passed (eqb e (length s)) _ badContents (λ t.
-          rw (cut-end e t) (record { few = few; key-items = p; value-items = q; nothing-left = eqb-true e (length s) t }))))
+          rw (cut-end e t) (record { few = few; key-items = p; value-items = q }))))
 
       inner-passed : (positions : ℕ) → Passed image kind (innerAt s (keyForm kind) n positions)
       unfolding innerAt
@@ -88,7 +86,7 @@ module _ (image : List ℕ) (kind : Kind) where
           skip-passed (skipped s (keyForm kind) n keys) _ (λ e q.
           cond-passed (eqb e (length s)) _ badContents (λ t.
           rw (cut-end e t)
-          (record { few = few; position-items = p; count-items = c; key-items = q; nothing-left = eqb-true e (length s) t })))))
+          (record { few = few; position-items = p; count-items = c; key-items = q })))))
 
       body-passed : (type i : ℕ) → Passed image kind (bodyAt s type (keyForm kind) n i)
       body-passed type i = go (eqb type 0)

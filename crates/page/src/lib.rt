@@ -29,7 +29,7 @@ pub struct Place {
 }
 
 // A page's head: how many keys it has, where its items begin and where the page ends; or its refusal.
-pub enum Head {
+enum Head {
     Refused(Refusal),
     Body { n: u32, at: usize, end: usize },
 }
@@ -54,7 +54,7 @@ pub enum Judged {
 }
 
 // Map ids and key counts are below this: 2^31.
-pub const COUNT_OF_KEYS: u64 = 2147483648;
+const COUNT_OF_KEYS: u64 = 2147483648;
 
 fn bad_contents() -> Judged
     ensures { λ r. ⌜ r ≡ Judged.Refused badContents ⌝ }
@@ -211,7 +211,7 @@ fn fields(s: &[u8], at: usize, page_type: u32, map: u32) -> Head
 }
 
 // The head of the page at a position in its chunk, due for a map.
-pub fn head_at(image: &[u8], chunk: Place, position: Position, map: u32) -> Head
+fn head_at(image: &[u8], chunk: Place, position: Position, map: u32) -> Head
     ensures { λ r. ⌜ r ≡ headAt (now (image .entry)) chunk (position .bits) map ⌝ }
 {
     let offset = position.offset();
