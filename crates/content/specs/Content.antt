@@ -10,12 +10,11 @@
 --   probeAt s kind i k       the key at a place against the key k
 use Prim.Native.Nat.{ℕ, _+_, _-_}
 use mathlib.Core.List.{List, [], _∷_, map}
-use mathlib.Core.Bool.{Bool, true, false, cond}
+use mathlib.Core.Bool.{true, false, cond}
 use mathlib.Core.Option.{Option, none, some}
 use lib.Dec.{ltb}
 use lib.ListN.{take, drop}
 use Rattle.refusal.specs.Refusal.{Outcome, ok, refuse}
-use Rattle.order.specs.declared.Order.{Order}
 use Rattle.numeral.specs.BigEndian.{bigEndianAt}
 use Rattle.key.specs.declared.Kind.{Kind}
 use Rattle.key.specs.Key.{Key, keyOf, compareKeys}

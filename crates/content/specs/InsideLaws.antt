@@ -5,18 +5,14 @@
 use Prim.Native.Nat.{ℕ, zero, suc, _+_, _≤_}
 use mathlib.Core.Path.{_≡_, refl, _∙_, ap}
 use mathlib.Core.List.{List, [], _∷_}
-use mathlib.Core.Option.{none, some}
 use native.Mathlib.Omega.{arith}
-use lib.ListN.{length, length-take, take, drop, getElem?}
+use lib.ListN.{length, length-take, take, drop}
 use lib.Seq.{take-take}
-use Rattle.order.specs.declared.Order.{Order}
-use Rattle.order.specs.declared.Order.the-variants as order
 use Rattle.key.specs.declared.Kind.{Kind}
 use Rattle.key.specs.declared.sized.Sized.{Sized}
 use Rattle.key.specs.declared.sized.Sized.the-variants.{At, Bad}
-use Rattle.key.specs.Key.{Key, keyOf, compareKeys}
+use Rattle.key.specs.Key.{Key, keyOf}
 use Rattle.tree.specs.Page.{All}
-use Rattle.tree.specs.Asking.{three, findIn}
 use Rattle.tree.specs.ListLaws.{all-imp}
 use Rattle.tree.specs.HoldsLaws.{InLeaf}
 use Rattle.item.specs.declared.Form.{Form}
@@ -27,9 +23,7 @@ use Rattle.item.specs.ItemLaws.{item-lies}
 use Rattle.page.specs.declared.Judged.{Judged}
 use Rattle.page.specs.declared.Judged.the-variants.{Refused, Leaf, Inner}
 use Rattle.page.specs.Judged.{keyForm}
-use Rattle.content.specs.declared.Found.the-variants as found
-use Rattle.content.specs.declared.Nth.the-variants as nth
-use Rattle.content.specs.Content.{Entry, keyIn, paired, entriesIn, pageOf, foundOf, nthOf}
+use Rattle.content.specs.Content.{Entry, keyIn, paired, entriesIn, pageOf}
 
 abbrev pub Inside : List ℕ → Spot → Type 0
 Inside s p = p .at + p .len ≤ length s
@@ -62,40 +56,6 @@ module _ (s : List ℕ) where
   entries-in : (kind : Kind) (n keys values : ℕ) → All (EntryIn s kind) (entriesIn s kind n keys values)
   unfolding entriesIn
   entries-in kind n keys values = paired-in kind _ _ (items-inside (keyForm kind) n keys) (items-inside Bytes n values)
-
-  find-inside : (kind : Kind) (k : Key) (es : List (Key × Entry)) {at len : ℕ} → All (EntryIn s kind) es
-      → foundOf (findIn compareKeys k es) ≡ found.At at len → at + len ≤ length s
-  find-inside kind k [] h e = absurd (let z : _≡_ {A = ℕ} 0 1 = cc in omega arith)
-  find-inside kind k (x ∷ es) {at} {len} h e = go (λ q. find-inside kind k es (h .1) q) (compareKeys (x .0) k) e
-    where
-      go : (foundOf (findIn compareKeys k es) ≡ found.At at len → at + len ≤ length s) → (o : Order)
-          → foundOf (three o (findIn compareKeys k es) (some (x .1)) none) ≡ found.At at len → at + len ≤ length s
-      go ih order.Less q = ih q
-      go ih order.Equal q =
-          let a : x .1 .value .at ≡ at = cc in
-          let b : x .1 .value .len ≡ len = cc in
-          omega (arith, h .0 .value-inside)
-      go ih order.Greater q = absurd (let z : _≡_ {A = ℕ} 0 1 = cc in omega arith)
-
-  nth-inside : (kind : Kind) (es : List (Key × Entry)) (k : ℕ) {key size at len : ℕ} → All (EntryIn s kind) es
-      → nthOf (getElem? es k) ≡ nth.Entry key size at len → (key + size ≤ length s) × (at + len ≤ length s)
-  nth-inside kind [] k h e = absurd (let z : _≡_ {A = ℕ} 0 1 = cc in omega arith)
-  nth-inside kind (x ∷ es) zero {key} {size} {at} {len} h e =
-      let a : x .1 .key .at ≡ key = cc in
-      let b : x .1 .key .len ≡ size = cc in
-      let c : x .1 .value .at ≡ at = cc in
-      let d : x .1 .value .len ≡ len = cc in
-      (omega (arith, h .0 .key-inside), omega (arith, h .0 .value-inside))
-  nth-inside kind (x ∷ es) (suc k) h e = nth-inside kind es k (h .1) e
-
-  -- ## What the code hands back
-  pub found-inside : (kind : Kind) (n keys values : ℕ) (k : Key) {at len : ℕ}
-      → foundOf (findIn compareKeys k (entriesIn s kind n keys values)) ≡ found.At at len → at + len ≤ length s
-  found-inside kind n keys values k e = find-inside kind k (entriesIn s kind n keys values) (entries-in kind n keys values) e
-
-  pub entry-inside : (kind : Kind) (n keys values k : ℕ) {key size at len : ℕ}
-      → nthOf (getElem? (entriesIn s kind n keys values) k) ≡ nth.Entry key size at len → (key + size ≤ length s) × (at + len ≤ length s)
-  entry-inside kind n keys values k e = nth-inside kind (entriesIn s kind n keys values) k (entries-in kind n keys values) e
 
 -- ## In the image
 -- bytes that end by e are the same

@@ -64,7 +64,7 @@ leaf-whole s kind n keys values p = record {
   all-entries = paired-length s kind n _ _ (skipped-length s (keyForm kind) n keys (p .key-items)) (skipped-length s Bytes n values (p .value-items));
 }
 
-pub upTo-few : {A C : Type 0} (read : C → Step A C) (n : ℕ) (c : C) → length (upTo read n c) ≤ n
+upTo-few : {A C : Type 0} (read : C → Step A C) (n : ℕ) (c : C) → length (upTo read n c) ≤ n
 unfolding upTo
 upTo-few read zero c = omega arith
 upTo-few {A} {C} read (suc n) c = go (λ d. upTo-few read n d) (read c)
@@ -146,15 +146,6 @@ judged-whole image c p map kind = go (judgedAt image c p map kind) (judged-passe
     go (Refused r) h = tt
     go (Leaf n keys values e) h = leaf-whole (take e image) kind n keys values h
     go (Inner n positions counts keys e total) h = inner-whole (take e image) kind n positions counts keys h
-
-module _ (image : List ℕ) (c : Place) (p map : ℕ) (kind : Kind) where
-  pub judged-leaf : {n keys values e : ℕ} → judgedAt image c p map kind ≡ Leaf n keys values e
-      → LeafWhole (take e image) kind n keys values
-  judged-leaf q = rw q at (judged-whole image c p map kind)
-
-  pub judged-inner : {n positions counts keys e total : ℕ} → judgedAt image c p map kind ≡ Inner n positions counts keys e total
-      → InnerWhole (take e image) kind n positions counts keys total
-  judged-inner q = rw q at (judged-whole image c p map kind)
 
 -- ## What the tree needs to know of a page
 abbrev pub childrenIn : List ℕ → Kind → ℕ → ℕ → ℕ → ℕ → Children Key

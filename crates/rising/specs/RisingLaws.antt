@@ -1,13 +1,13 @@
 -- The order of a page's keys: one law for each way that the code takes.
 --
 --   endBelow hi r    the last of keys that rise is below the bound; not so of keys that don't rise
-use Prim.Native.Nat.{ℕ, zero, suc, _+_, _-_, _≤_, _<_}
-use mathlib.Core.Path.{_≡_, refl, ap}
+use Prim.Native.Nat.{ℕ, _-_, _≤_, _<_}
+use mathlib.Core.Path.{_≡_, refl}
 use mathlib.Core.Bool.{Bool, true, false, cond, _&&_}
 use mathlib.Core.List.{List, [], _∷_, map}
 use mathlib.Core.Option.{none, some}
 use native.Mathlib.Omega.{arith}
-use lib.ListN.{length, take, drop}
+use lib.ListN.{length-take, take}
 use Rattle.key.specs.declared.Kind.{Kind}
 use Rattle.key.specs.declared.sized.Sized.the-variants as sized
 use Rattle.key.specs.Key.{compareKeys}
@@ -20,31 +20,19 @@ use Rattle.item.specs.Item.{Spot, itemAt, items}
 use Rattle.item.specs.ItemLaws.{items-at, items-bad}
 use Rattle.page.specs.Judged.{keyForm}
 use Rattle.content.specs.Content.{keyIn, keysIn}
-use Rattle.content.specs.InsideLaws.{Inside, items-inside}
+use Rattle.content.specs.InsideLaws.{Inside, items-inside, part-cut}
 use Rattle.rising.specs.declared.Bound.{Bound}
 use Rattle.rising.specs.declared.Bound.the-variants as bound
 use Rattle.rising.specs.declared.Rise.{Rise}
 use Rattle.rising.specs.declared.Rise.the-variants as rise
 use Rattle.rising.specs.Rising.{boundKey, riseOf, firstOf}
 
--- ## Bytes of a cut
-pub cut-bytes : (image : List ℕ) (end at len : ℕ) → at + len ≤ length (take end image)
-    → take len (drop at (take end image)) ≡ take len (drop at image)
-cut-bytes [] zero at len h = refl
-cut-bytes [] (suc end) at len h = refl
-cut-bytes (x ∷ image) zero zero zero h = refl
-cut-bytes (x ∷ image) zero zero (suc len) h = absurd (omega arith)
-cut-bytes (x ∷ image) zero (suc at) len h = absurd (omega arith)
-cut-bytes (x ∷ image) (suc end) zero zero h = refl
-cut-bytes (x ∷ image) (suc end) zero (suc len) h = ap (λ (l : List ℕ). x ∷ l) (cut-bytes image end zero len (omega arith))
-cut-bytes (x ∷ image) (suc end) (suc at) len h = cut-bytes image end at len (omega arith)
-
 module _ (image : List ℕ) (kind : Kind) where
   -- ## The keys of a page, by their spots in the image
   same-keys : (end : ℕ) (ps : List Spot) → All (Inside (take end image)) ps → map (keyIn (take end image) kind) ps ≡ map (keyIn image kind) ps
   unfolding keyIn
   same-keys end [] h = refl
-  same-keys end (p ∷ ps) h = rw (cut-bytes image end (p .at) (p .len) (h .0), same-keys end ps (h .1))
+  same-keys end (p ∷ ps) h = rw (part-cut (p .at) (p .len) end image (omega (arith, length-take end image, h .0)), same-keys end ps (h .1))
 
   pub keys-at : (end n keys : ℕ) → keysIn (take end image) kind n keys ≡ map (keyIn image kind) (upTo (items (take end image) (keyForm kind)) n keys)
   unfolding keysIn

@@ -5,16 +5,16 @@
 --   Bounded root levels r   the same of any page; the root may be an empty leaf, one page more
 --   ReadsBelow bound read   leaves have, and inner pages record, fewer than `bound` entries
 use Prim.Native.Nat.{ℕ, zero, suc, _+_, _*_, _<_, _≤_}
-use mathlib.Core.Path.{_≡_, refl, subst}
+use mathlib.Core.Path.{_≡_, refl}
 use mathlib.Core.Bool.{Bool, true, false}
-use mathlib.Core.Option.{Option, none, some}
+use mathlib.Core.Option.{Option, some}
 use mathlib.Core.List.{List, [], _∷_}
 use native.Mathlib.Omega.{arith}
 use lib.ListN.{length}
 use Rattle.refusal.specs.Refusal.{Outcome, ok, refuse, tooDeep}
 use Rattle.order.specs.declared.Order.{Order}
 use Rattle.tree.specs.Page.{Children, last, more, Page, leaf, inner, total}
-use Rattle.tree.specs.Examination.{Report, nothing, oneLeaf, both, over, examineChildren, examinePage, examine, mapExamine}
+use Rattle.tree.specs.Examination.{Report, nothing, oneLeaf, both, over, examineChildren, examinePage, examine}
 use Rattle.tree.specs.Meets.{Filled}
 use Rattle.tree.specs.OutcomeLaws.{refuse-ok}
 use Rattle.tree.specs.FilledLaws.{filled-true}
@@ -82,13 +82,6 @@ module _ {K W : Type 0} (cmp : K → K → Order) (read : ℕ → Outcome (Page 
   examine-bounded (suc levels) root lo hi p r e =
       page-bounded levels (examine cmp read levels false) (λ a b q x h. examine-bounded levels false a b q x h) cmp root lo hi (read p) r e
 
-  pub passed-bounded : (root : ℕ) (r : Report) → mapExamine cmp read root ≡ ok r → (r .pages ≤ 16 * r .entries + 1) × (r .depth ≤ 16)
-  unfolding mapExamine
-  passed-bounded zero r e =
-      let same : nothing ≡ r = cc in
-      subst (Bounded true 16) same (omega arith, omega arith)
-  passed-bounded (suc p) r e = examine-bounded 16 true none none (suc p) r e
-
 -- ## Entries: what is counted is what is recorded, and so as small as the page rules keep that
 pub children-total : {K : Type 0} (child : Option K → Option K → ℕ → Outcome Report) (lo hi : Option K) (cs : Children K) (r : Report)
     → examineChildren child lo hi cs ≡ ok r → r .entries ≡ total cs
@@ -118,10 +111,3 @@ module _ {K W : Type 0} (cmp : K → K → Order) (read : ℕ → Outcome (Page 
   unfolding examine
   examine-below zero root lo hi p r e = refuse-ok tooDeep r e
   examine-below (suc levels) root lo hi p r e = page-below (examine cmp read levels false) root lo hi p (read p) r refl e
-
-  pub passed-below : (root : ℕ) (r : Report) → 0 < bound → mapExamine cmp read root ≡ ok r → r .entries < bound
-  unfolding mapExamine
-  passed-below zero r h e =
-      let same : nothing ≡ r = cc in
-      omega (arith, same-entries same)
-  passed-below (suc p) r h e = examine-below 16 true none none (suc p) r e

@@ -1,26 +1,21 @@
 -- Laws of an inner page as three lists: X-childrenOf says what X is there, in document 01's words; X-from what a loop that has come
 -- to child number j has still to do.
-use Prim.Native.Nat.{ℕ, zero, suc, _+_, _<_, _≤_, max}
+use Prim.Native.Nat.{ℕ, zero, suc, _+_, _<_, max}
 use mathlib.Core.Path.{_≡_, refl, _∙_, ap}
 use mathlib.Core.Bool.{Bool, true, false}
 use mathlib.Core.Option.{Option, some}
-use mathlib.Core.List.{List, [], _∷_, _++_}
+use mathlib.Core.List.{List, [], _∷_}
 use native.Mathlib.Nat.{add-zero, le-refl}
 use native.Mathlib.Omega.{arith}
 use lib.ListN.{length, getD, drop, drop-of-length-le}
 use lib.Seq.{drop-cons, getD-drop}
 use Rattle.refusal.specs.Refusal.{Outcome, ok, refuse, bind}
 use Rattle.order.specs.declared.Order.{Order}
-use Rattle.order.specs.Order.{Below, UpTo, below}
-use Rattle.order.specs.Laws.{false-below}
-use Rattle.tree.specs.Page.{branch, Children, last, more, separators, total, joined}
+use Rattle.order.specs.Order.{below}
+use Rattle.tree.specs.Page.{branch, Children, last, more, separators, total}
 use Rattle.tree.specs.Asking.{childFor}
 use Rattle.tree.specs.Examination.{Report, counted, both, examineChildren}
-use Rattle.tree.specs.InnerPage.{childrenOf, childrenFrom, lead, sum, joinAll, examineFrom}
-
-append-nil : {E : Type 0} (l : List E) → l ≡ l ++ []
-append-nil [] = refl
-append-nil (x ∷ l) = ap (x ∷_) (append-nil l)
+use Rattle.tree.specs.InnerPage.{childrenOf, childrenFrom, lead, sum, examineFrom}
 
 pub getD-tail : (l : List ℕ) (i : ℕ) → getD (drop 1 l) i 0 ≡ getD l (suc i) 0
 getD-tail [] i = refl
@@ -45,14 +40,6 @@ module _ {K : Type 0} where
   total-childrenOf ps (n ∷ m ∷ ns) [] h = absurd (omega arith)
   total-childrenOf ps (n ∷ ns) (s ∷ ks) h = ap (n +_) (total-childrenOf (drop 1 ps) ns ks (omega arith))
 
-  -- "its children's lists joined, child 0 first"
-  pub joined-childrenOf : {E : Type 0} (list : ℕ → List E) (ps ns : List ℕ) (ks : List K) → length ps ≡ suc (length ks)
-      → joined list (childrenOf ps ns ks) ≡ joinAll list ps
-  joined-childrenOf list [] ns ks h = absurd (omega arith)
-  joined-childrenOf list (p ∷ []) ns [] h = append-nil (list p)
-  joined-childrenOf list (p ∷ q ∷ ps) ns [] h = absurd (omega arith)
-  joined-childrenOf list (p ∷ ps) ns (s ∷ ks) h = ap (list p ++_) (joined-childrenOf list ps (drop 1 ns) ks (omega arith))
-
   -- "take the child numbered by how many leading keys, up to the first greater one, are not greater"
   pub childFor-childrenOf : (cmp : K → K → Order) (k : K) (ps ns : List ℕ) (ks : List K)
       → childFor cmp k (childrenOf ps ns ks) ≡ getD ps (lead cmp k ks) 0
@@ -74,16 +61,6 @@ module _ {K : Type 0} where
   last-from ps ns ks =
       let n = length ks in
       rw (drop-of-length-le ks (le-refl n), getD-drop n ps 0 0, getD-drop n ns 0 0, add-zero n)
-
-  module _ (cmp : K → K → Order) (k : K) (ks : List K) (j : ℕ) where
-    pub lead-greater-from : (d : K) → j < length ks → Below cmp k (getD ks j d) → lead cmp k (drop j ks) ≡ 0
-    lead-greater-from d h b = rw (drop-cons ks j d h, b)
-
-    pub lead-more-from : (d : K) → j < length ks → UpTo cmp (getD ks j d) k → lead cmp k (drop j ks) ≡ suc (lead cmp k (drop (suc j) ks))
-    lead-more-from d h u = rw (drop-cons ks j d h, false-below cmp k (getD ks j d) u)
-
-    pub lead-end-from : length ks ≤ j → lead cmp k (drop j ks) ≡ 0
-    lead-end-from h = rw (drop-of-length-le ks h)
 
 -- ## The examination with the report of the children before
 both-assoc : (a b c : Report) → both (both a b) c ≡ both a (both b c)

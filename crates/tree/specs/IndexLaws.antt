@@ -1,24 +1,18 @@
 -- Index and count of a map whose recorded counts are right are those of the entry list.
-use Prim.Native.Nat.{ℕ, zero, suc, _-_, _≤_}
+use Prim.Native.Nat.{ℕ, zero, suc, _-_}
 use mathlib.Core.Path.{_≡_, refl, sym, ap}
 use mathlib.Core.Bool.{Bool, true, false}
 use mathlib.Core.List.{List, _++_}
 use native.Mathlib.Omega.{arith}
 use lib.Dec.{ltb}
 use lib.ListN.{length}
-use borrow.Author.Tests.{ltb-true, ltb-false, le-ltb}
+use borrow.Author.Tests.{ltb-true, ltb-false}
 use Rattle.refusal.specs.Refusal.{Outcome, ok, refuse, badIndex}
 use Rattle.order.specs.declared.Order.{Order}
-use Rattle.tree.specs.Page.{branch, Children, last, more, Page, leaf, inner, total, joined, nth, AllChildren}
+use Rattle.tree.specs.Page.{branch, Children, last, more, Page, leaf, inner, joined, nth, AllChildren}
 use Rattle.tree.specs.Asking.{indexChildren, indexPage, countPage, entriesPage, index, entries}
 use Rattle.tree.specs.Meets.{MeetsPage, Meets}
 use Rattle.tree.specs.ListLaws.{children-imp, total-joined, nth-left, nth-right, nth-beyond}
-
--- an index that is not below the total of the recorded counts, right or wrong, is refused
-pub index-beyond : {K E : Type 0} (child : ℕ → ℕ → Outcome E) (i : ℕ) (cs : Children K) → total cs ≤ i
-    → indexChildren child i cs ≡ refuse badIndex
-index-beyond child i (last p c) h = rw (le-ltb i c h)
-index-beyond child i (more p c s cs) h = rw (le-ltb i c (omega arith)) (index-beyond child (i - c) cs (omega arith))
 
 module _ {K E : Type 0} (list : ℕ → List E) (child : ℕ → ℕ → Outcome E) where
   index-children : (i : ℕ) (cs : Children K)

@@ -4,11 +4,11 @@
 --   childrenOf ps ns ks        the children with the positions ps, the recorded counts ns and the keys ks between them
 --   childrenFrom ps ns ks j    those from number j on
 --   lead cmp k ks              how many leading keys, up to the first greater one, are not greater than k
---   sum ns, joinAll list ps    of all counts; of all positions
+--   sum ns                     of all counts
 --   examineFrom .. r cs        the examination of the children cs, with the report r of those before
 use Prim.Native.Nat.{ℕ, suc, _+_}
 use mathlib.Core.Option.{Option, some}
-use mathlib.Core.List.{List, [], _∷_, _++_}
+use mathlib.Core.List.{List, [], _∷_}
 use lib.ListN.{getD, drop}
 use Rattle.refusal.specs.Refusal.{Outcome, ok, bind}
 use Rattle.order.specs.declared.Order.{Order}
@@ -36,7 +36,3 @@ module _ {K : Type 0} where
 abbrev pub sum : List ℕ → ℕ
 sum [] = 0
 sum (n ∷ ns) = n + sum ns
-
-abbrev pub joinAll : {E : Type 0} → (ℕ → List E) → List ℕ → List E
-joinAll list [] = []
-joinAll list (p ∷ ps) = list p ++ joinAll list ps

@@ -71,12 +71,6 @@ module _ {E : Type 0} where
   through pre past over = past
   through pre past (stop r) = stop r
 
-  -- the list of all its numbers is pre ++ (j ∷ is)
-  pub prefixed-yields : (pre : List ℕ) (e : E) (j : ℕ) (is : List ℕ)
-      → (i : ℕ) × (js : List ℕ) × (prefixed pre e j is ≡ yield e i js) × (i ∷ js ≡ pre ++ (j ∷ is))
-  prefixed-yields [] e j is = (j, is, refl, refl)
-  prefixed-yields (i ∷ pre) e j is = (i, pre ++ (j ∷ is), refl, refl)
-
   through-root : (m : Moved E) → through [] over m ≡ m
   through-root (yield e j is) = refl
   through-root over = refl

@@ -1,7 +1,6 @@
 -- The walk over a map, over any reading of pages:
 --
 --   sound-yields      over a sound map, steps from the fresh state yield the entry list in order, one entry a step, and then no more
---   passed-yields     so they do over a map that the examination passes
 --   next-fits         the numbers of an entry fit the 16 places of the state, whatever the map
 --
 --   FitsIn n m        if m yields an entry, at most n numbers lead to it; Fits m for the 16 of the state
@@ -19,18 +18,15 @@ use native.Mathlib.Omega.{arith}
 use lib.ListN.{length, getElem?}
 use Rattle.refusal.specs.Refusal.{Outcome, ok, refuse}
 use Rattle.order.specs.declared.Order.{Order}
-use Rattle.order.specs.Order.{TotalOrder}
 use Rattle.tree.specs.Page.{Children, last, more, Page, leaf, inner, joined, AllChildren}
 use Rattle.tree.specs.Asking.{entriesPage, entries, mapEntries}
 use Rattle.tree.specs.Sound.{Sound}
-use Rattle.tree.specs.Demand3.{Passes}
 use Rattle.tree.specs.Walk.{Moved, yield, over, stop, childAt, firstChild, entryAt, afterEntry, leftmostIn, nextOver, nextIn}
 use Rattle.tree.specs.Walk.{firstPage, nextPage, first, next, mapNext, Yields}
 use Rattle.tree.specs.Meets.{Filled, MeetsPage, Meets, MeetsMap}
 use Rattle.tree.specs.ListLaws.{children-imp}
 use Rattle.tree.specs.FilledLaws.{meets-filled}
 use Rattle.tree.specs.ReachedLaws.{sound-meets}
-use Rattle.tree.specs.Theorem.{examined}
 
 -- ## Steps from entry to entry
 abbrev Runs : {E : Type 0} → (ℕ → List ℕ → Moved E) → Moved E → List E → Type 0
@@ -133,10 +129,6 @@ module _ {K W : Type 0} (cmp : K → K → Order) (read : ℕ → Outcome (Page 
   sound-yields (suc p) s =
       runs-yields read p (first read 16 (suc p)) (entries read 16 (suc p))
       (meets-runs cmp read 16 true (suc p) (sound-meets cmp read (suc p) s .0))
-
-module _ {K W : Type 0} {cmp : K → K → Order} (L : TotalOrder K cmp) (read : ℕ → Outcome (Page K W)) where
-  pub passed-yields : (root : ℕ) → Passes cmp read root → Yields read root (mapNext read [] root) (mapEntries read root)
-  passed-yields root h = sound-yields cmp read root (examined L read root .0 h)
 
 -- ## The numbers fit the places
 abbrev pub FitsIn : {E : Type 0} → ℕ → Moved E → Type 0
