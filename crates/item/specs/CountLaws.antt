@@ -1,8 +1,8 @@
 -- Laws of recorded counts: one step of summing several, and one count by its number.
 --
---   countedFrom s n i sum    the sum of n more counts from place i on, with the sum so far
-use Prim.Native.Nat.{ℕ, zero, suc, _+_, _-_, _≤_, _<_}
-use mathlib.Core.Path.{_≡_, refl, _∙_, ap}
+--   Summing s left i sum answer    the answer of a loop that has `left` counts to add from place i on, with the sum so far
+use Prim.Native.Nat.{ℕ, _+_, _-_, _≤_, _<_}
+use mathlib.Core.Path.{_≡_, refl, sym, _∙_, ap}
 use mathlib.Core.List.{List}
 use mathlib.Core.Bool.{Bool, true, false, cond}
 use mathlib.Core.Option.{Option, none, some}
@@ -18,9 +18,6 @@ use Rattle.item.specs.declared.Counted.the-variants.{Sum, Stuck}
 use Rattle.item.specs.Step.{Step, got, bad, onStep, after, upTo}
 use Rattle.item.specs.StepLaws.{onSome, getD-elem, after-more, after-bad, upTo-past, upTo-nth, itemOf}
 use Rattle.item.specs.Item.{onNumeral, countLimit, countAt, countedOf, counted}
-
-unfoldable pub countedFrom : List ℕ → ℕ → ℕ → ℕ → Counted
-countedFrom s n i sum = countedOf (after (countAt s) n (i, sum))
 
 module _ (s : List ℕ) where
   -- ## One count
@@ -58,29 +55,29 @@ module _ (s : List ℕ) where
       go (Read u next) h = by u next (ltb (c .1 + u) countLimit) refl h
       go Bad h = absurd (let z : _≡_ {A = ℕ} 0 1 = cc in omega arith)
 
-  -- ## One step of a sum
-  pub counted-from : (n i : ℕ) → countedFrom s n i 0 ≡ counted s n i
-  unfolding countedFrom counted
-  counted-from n i = refl
+-- ## A loop
+pub record Summing (s : List ℕ) (left i sum : ℕ) (answer : Counted) : Type 0 where
+  pub so-far : countedOf (after (countAt s) left (i, sum)) ≡ answer
 
-  pub counted-none : (n i sum : ℕ) → n ≤ 0 → countedFrom s n i sum ≡ Sum sum i
-  unfolding countedFrom after
-  counted-none zero i sum h = refl
-  counted-none (suc n) i sum h = absurd (omega arith)
+pub sum-begins : (s : List ℕ) (n i : ℕ) → Summing s n i 0 (counted s n i)
+unfolding counted
+sum-begins s n i = record { so-far = refl }
 
-  module _ (n i sum : ℕ) (h : 0 < n) where
-    pub counted-more : {v next : ℕ} → varAt countLimit s i ≡ Read v next → sum + v < countLimit
-        → countedFrom s n i sum ≡ countedFrom s (n - 1) next (sum + v)
-    unfolding countedFrom
-    counted-more e k = ap countedOf (after-more (countAt s) n (i, sum) h (count-at i sum e k))
+module _ {s : List ℕ} {left i sum : ℕ} {answer : Counted} (l : Summing s left i sum answer) where
+  pub sum-none : left ≤ 0 → Sum sum i ≡ answer
+  unfolding after
+  sum-none h = let e : left ≡ 0 = omega arith in rw e at (l .so-far)
 
-    pub counted-over : {v next : ℕ} → varAt countLimit s i ≡ Read v next → countLimit ≤ sum + v → countedFrom s n i sum ≡ Stuck
-    unfolding countedFrom
-    counted-over e k = ap countedOf (after-bad (countAt s) n (i, sum) h (count-over i sum e k))
+  module _ {r : Numeral} (h : 0 < left) (e : r ≡ varAt countLimit s i) where
+    pub sum-bad : r ≡ Bad → Stuck ≡ answer
+    sum-bad t = rw (after-bad (countAt s) left (i, sum) h (count-bad s i sum (sym e ∙ t))) at (l .so-far)
 
-    pub counted-bad : varAt countLimit s i ≡ Bad → countedFrom s n i sum ≡ Stuck
-    unfolding countedFrom
-    counted-bad e = ap countedOf (after-bad (countAt s) n (i, sum) h (count-bad i sum e))
+    module _ {v next : ℕ} (t : r ≡ Read v next) where
+      pub sum-over : countLimit ≤ sum + v → Stuck ≡ answer
+      sum-over k = rw (after-bad (countAt s) left (i, sum) h (count-over s i sum (sym e ∙ t) k)) at (l .so-far)
+
+      pub sum-more : sum + v < countLimit → Summing s (left - 1) next (sum + v) answer
+      sum-more k = record { so-far = rw (after-more (countAt s) left (i, sum) h (count-at s i sum (sym e ∙ t) k)) at (l .so-far) }
 
 -- ## A count by its number
 module _ (s : List ℕ) (n at k : ℕ) where

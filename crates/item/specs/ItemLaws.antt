@@ -1,6 +1,8 @@
 -- Laws of a page's items: one step of passing several, one item by its number, and where an item lies.
+--
+--   Skipping s f left i answer    the answer of a loop that has `left` items of a form to pass, from place i on
 use Prim.Native.Nat.{ℕ, zero, suc, _+_, _*_, _-_, _≤_, _<_}
-use mathlib.Core.Path.{_≡_, refl, _∙_, ap}
+use mathlib.Core.Path.{_≡_, refl, sym, _∙_, ap}
 use mathlib.Core.List.{List}
 use mathlib.Core.Option.{Option, none, some}
 use mathlib.Core.Bool.{Bool, true, false}
@@ -9,11 +11,13 @@ use borrow.Author.Tests.{le-leb, lt-leb, leb-true, leb-false}
 use lib.Dec.{leb}
 use lib.ListN.{length, getElem?}
 use Rattle.key.specs.declared.Kind.the-variants.{Number, Text}
+use Rattle.key.specs.declared.sized.Sized.{Sized}
 use Rattle.key.specs.declared.sized.Sized.the-variants.{At, Bad}
 use Rattle.key.specs.Key.{keyAt}
 use Rattle.key.specs.SizedLaws.{Lies, sized-lies, key-lies}
 use Rattle.item.specs.declared.Form.{Form}
 use Rattle.item.specs.declared.Form.the-variants as form
+use Rattle.item.specs.declared.Skip.{Skip}
 use Rattle.item.specs.declared.Skip.the-variants.{Past, Stuck}
 use Rattle.item.specs.Step.{got, bad, after, upTo}
 use Rattle.item.specs.StepLaws.{onSome, after-more, after-bad, upTo-length, upTo-nth, itemOf}
@@ -29,19 +33,6 @@ module _ (s : List ℕ) (f : Form) where
   unfolding items
   items-bad i e = rw e
 
-  pub skipped-none : (n i : ℕ) → n ≤ 0 → skipped s f n i ≡ Past i
-  unfolding skipped after
-  skipped-none zero i h = refl
-  skipped-none (suc n) i h = absurd (omega arith)
-
-  pub skipped-more : (n i : ℕ) {at len next : ℕ} → 0 < n → itemAt s f i ≡ At at len next → skipped s f n i ≡ skipped s f (n - 1) next
-  unfolding skipped
-  skipped-more n i h e = ap skipOf (after-more (items s f) n i h (items-at i e))
-
-  pub skipped-bad : (n i : ℕ) → 0 < n → itemAt s f i ≡ Bad → skipped s f n i ≡ Stuck
-  unfolding skipped
-  skipped-bad n i h e = ap skipOf (after-bad (items s f) n i h (items-bad i e))
-
   -- ## All of them
   -- where n items can be passed, n are there
   pub skipped-length : (n i : ℕ) {next : ℕ} → skipped s f n i ≡ Past next → length (upTo (items s f) n i) ≡ n
@@ -51,6 +42,24 @@ module _ (s : List ℕ) (f : Form) where
       go : (o : Option ℕ) → after (items s f) n i ≡ o → skipOf o ≡ Past next → length (upTo (items s f) n i) ≡ n
       go (some d) q h = upTo-length (items s f) n i q
       go none q h = absurd (let z : _≡_ {A = ℕ} 0 1 = cc in omega arith)
+
+-- ## A loop
+pub record Skipping (s : List ℕ) (f : Form) (left i : ℕ) (answer : Skip) : Type 0 where
+  pub so-far : skipped s f left i ≡ answer
+
+module _ {s : List ℕ} {f : Form} {left i : ℕ} {answer : Skip} (l : Skipping s f left i answer) where
+  pub skip-none : left ≤ 0 → Past i ≡ answer
+  unfolding skipped after
+  skip-none h = let e : left ≡ 0 = omega arith in rw e at (l .so-far)
+
+  module _ {it : Sized} (h : 0 < left) (e : it ≡ itemAt s f i) where
+    pub skip-more : {at len next : ℕ} → it ≡ At at len next → Skipping s f (left - 1) next answer
+    unfolding skipped
+    skip-more t = record { so-far = rw (after-more (items s f) left i h (items-at s f i (sym e ∙ t))) at (l .so-far) }
+
+    pub skip-bad : it ≡ Bad → Stuck ≡ answer
+    unfolding skipped
+    skip-bad t = rw (after-bad (items s f) left i h (items-bad s f i (sym e ∙ t))) at (l .so-far)
 
 -- ## An item by its number
 module _ (s : List ℕ) (f : Form) (n at k : ℕ) (h : k < n) where

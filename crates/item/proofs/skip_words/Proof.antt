@@ -1,13 +1,13 @@
 use native.Mathlib.Omega.{arith}
-use mathlib.Core.Path.{sym}
+use mathlib.Core.Path.{refl, sym}
 use Rattle.item.specs.declared.Form.the-variants.{Word}
-use Rattle.item.specs.ItemLaws.{skipped-none, words-past, words-stuck}
+use Rattle.item.specs.ItemLaws.{skip-none, words-past, words-stuck}
 use borrow.Author.Needs.{needs}
 use Rattle.item.proofs.skip_words.Statement.{statement}
 use Rattle.item.proofs.skip_words.Tie as tie
 
 returns : tie.Need-returns
-returns c = sym (skipped-none _ Word (c .before .args .n) (c .before .args .at) (omega arith))
+returns c = skip-none {f = Word} (record { so-far = refl }) (omega arith)
 
 returns-2 : tie.Need-returns-2
 returns-2 c = sym (words-stuck _ _ _ (omega arith) (omega arith))

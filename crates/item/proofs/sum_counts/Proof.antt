@@ -1,37 +1,27 @@
 use Prim.Native.Nat.{_<_}
 use native.Mathlib.Omega.{arith}
-use mathlib.Core.Path.{_≡_, sym, _∙_}
-use Rattle.item.specs.Item.{countLimit, counted}
-use Rattle.item.specs.CountLaws.{countedFrom, counted-from, counted-none, counted-more, counted-over, counted-bad}
 use borrow.Author.Needs.{needs}
+use Rattle.item.specs.Item.{countLimit, counted}
+use Rattle.item.specs.CountLaws.{Summing, sum-begins, sum-none, sum-more, sum-over, sum-bad}
 use Rattle.item.proofs.sum_counts.Statement.{statement}
 use Rattle.item.proofs.sum_counts.Tie as tie
 
 abbrev Inv-loop : tie.InvT-loop
-Inv-loop s n at left₀ i₀ sum₀ left i sum = (sum < countLimit) × (countedFrom s left i sum ≡ counted s n at)
+Inv-loop s n at left₀ i₀ sum₀ left i sum = (sum < countLimit) × Summing s left i sum (counted s n at)
 
 abbrev μ-loop : tie.MeasureT-loop
 μ-loop s n at left₀ i₀ sum₀ left i sum = left
 
-loop-holds : tie.Need-loop-holds Inv-loop μ-loop
-loop-holds c = (search needs, counted-from _ _ _)
-
-returns : tie.Need-returns Inv-loop μ-loop
-returns c =
-    sym (counted-bad _ _ _ _ (omega arith) (sym (c .before .before .read-var .ensures) ∙ c .enum-told .given .1)) ∙ c .before .before .before .before .loop .inv .1
-
 returns-2 : tie.Need-returns-2 Inv-loop μ-loop
 returns-2 c =
     let count = c .before .before in
-    sym (counted-over _ _ _ _ (omega arith) (sym (count .before .before .read-var .ensures) ∙ count .v .given .1) (omega arith)) ∙ count .before .before .before .before .loop .inv .1
+    sum-over (count .before .before .before .before .loop .inv .1) (omega arith) (count .before .before .read-var .ensures) (count .v .given .1) (omega arith)
 
 loop-again : tie.Need-loop-again Inv-loop μ-loop
 loop-again c =
     let count = c .before .before in
-    (omega arith, sym (counted-more _ _ _ _ (omega arith) (sym (count .before .before .read-var .ensures) ∙ count .v .given .1) (omega arith)) ∙ count .before .before .before .before .loop .inv .1)
-
-returns-3 : tie.Need-returns-3 Inv-loop μ-loop
-returns-3 c = sym (counted-none _ _ _ _ (omega arith)) ∙ c .before .loop .inv .1
+    let l = count .before .before .before .before .loop in
+    (omega arith, sum-more (l .inv .1) (omega arith) (count .before .before .read-var .ensures) (count .v .given .1) (omega arith))
 
 pub sum-counts-spec : {M : Type 1} → statement M
 sum-counts-spec =
@@ -39,15 +29,15 @@ sum-counts-spec =
     (tie.spec
     Inv-loop
     μ-loop
-    loop-holds
+    (λ c. search (needs, sum-begins))
     (λ c κs. search needs)
     (λ c. search needs)
     (λ c. search needs)
-    returns
+    (λ c. search (needs, sum-bad))
     (λ c. search needs)
     returns-2
     (λ c. search needs)
     (λ c. search needs)
     (λ c. search needs)
     loop-again
-    returns-3)
+    (λ c. search (needs, sum-none)))
