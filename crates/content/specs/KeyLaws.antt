@@ -1,13 +1,14 @@
--- A key among a page's keys: one step of each loop.
+-- A key among a page's keys: one step of each loop, of keys of either kind.
 --
---   Seen i next same    the key at place i is not greater than k; `same`: it is equal
---   Greater i           the key at place i is greater than k
-use Prim.Native.Nat.{ℕ, zero, suc, _-_, _≤_, _<_}
-use mathlib.Core.Path.{_≡_, refl, ap, _∙_}
+--   Seen i next same                the key at place i is not greater than k; `same`: it is equal
+--   Greater i                       the key at place i is greater than k
+--   Leading left i passed answer    the answer of a loop that has passed so many keys, with `left` more of them from place i on
+--   Finding left i j answer         the answer of a loop that looks among `left` keys from place i on, their values from place j on
+use Prim.Native.Nat.{ℕ, _+_, _-_, _≤_, _<_}
+use mathlib.Core.Path.{_≡_, refl, sym, _∙_, ap}
 use mathlib.Core.List.{List, [], _∷_}
 use mathlib.Core.Logic.{_⊎_, inl, inr}
 use mathlib.Core.Bool.{Bool, true, false, cond}
-use mathlib.Core.Option.{Option, none, some}
 use native.Mathlib.Omega.{arith}
 use lib.ListN.{take, drop}
 use Rattle.order.specs.declared.Order.{Order}
@@ -26,27 +27,25 @@ use Rattle.item.specs.ItemLaws.{items-at, items-bad, item-lies}
 use Rattle.tree.specs.Asking.{three, findIn}
 use Rattle.tree.specs.InnerPage.{lead}
 use Rattle.page.specs.Judged.{keyForm}
+use Rattle.content.specs.declared.Probe.{Probe}
 use Rattle.content.specs.declared.Probe.the-variants.{UpTo, Stop}
+use Rattle.content.specs.declared.Found.{Found}
 use Rattle.content.specs.declared.Found.the-variants as found
-use Rattle.content.specs.Content.{Entry, keyIn, keysIn, paired, entriesIn, probeAt, foundOf}
-
--- at a key that is not greater: its entry, where it is equal; else what the rest answers
-abbrev seenThen : Bool → Entry → Option Entry → Option Entry
-seenThen same e rest = three (cond same order.Equal order.Less) rest (some e) none
+use Rattle.content.specs.Content.{keyIn, keysIn, paired, entriesIn, probeAt, foundOf}
 
 module _ (s : List ℕ) (kind : Kind) (k : Key) where
   -- ## What a probe tells
-  pub record Seen (i next : ℕ) (same : Bool) : Type 0 where
-    pub spot : Spot
-    pub reads : items s (keyForm kind) i ≡ got spot next
-    pub upto : below compareKeys k (keyIn s kind spot) ≡ false
-    pub order : compareKeys (keyIn s kind spot) k ≡ cond same order.Equal order.Less
+  record Seen (i next : ℕ) (same : Bool) : Type 0 where
+    spot : Spot
+    reads : items s (keyForm kind) i ≡ got spot next
+    upto : below compareKeys k (keyIn s kind spot) ≡ false
+    order : compareKeys (keyIn s kind spot) k ≡ cond same order.Equal order.Less
 
-  pub record Greater (i : ℕ) : Type 0 where
-    pub spot : Spot
-    pub next : ℕ
-    pub reads : items s (keyForm kind) i ≡ got spot next
-    pub order : compareKeys (keyIn s kind spot) k ≡ order.Greater
+  record Greater (i : ℕ) : Type 0 where
+    spot : Spot
+    next : ℕ
+    reads : items s (keyForm kind) i ≡ got spot next
+    order : compareKeys (keyIn s kind spot) k ≡ order.Greater
 
   -- the key's bytes are those from its place up to the place after it
   pub probe-at : (i : ℕ) {at len next : ℕ} → itemAt s (keyForm kind) i ≡ At at len next
@@ -72,7 +71,7 @@ module _ (s : List ℕ) (kind : Kind) (k : Key) where
       record { spot = spot; reads = rw (← n) r; upto = rw (key-order .flip (keyIn s kind spot) k, q); order = rw (← t) q }
   seen-at i spot after r order.Greater q e = absurd (let z : _≡_ {A = ℕ} 0 1 = cc in omega arith)
 
-  pub seen : (i : ℕ) {next : ℕ} {same : Bool} → probeAt s kind i k ≡ UpTo next same → Seen i next same
+  seen : (i : ℕ) {next : ℕ} {same : Bool} → probeAt s kind i k ≡ UpTo next same → Seen i next same
   unfolding probeAt
   seen i {next} {same} e = go (itemAt s (keyForm kind) i) refl
     where
@@ -86,7 +85,7 @@ module _ (s : List ℕ) (kind : Kind) (k : Key) where
   greater-at i spot after r order.Equal q e = absurd (let z : _≡_ {A = ℕ} 0 1 = cc in omega arith)
   greater-at i spot after r order.Greater q e = record { spot = spot; next = after; reads = r; order = q }
 
-  pub stopped : (i : ℕ) → probeAt s kind i k ≡ Stop → (items s (keyForm kind) i ≡ bad) ⊎ Greater i
+  stopped : (i : ℕ) → probeAt s kind i k ≡ Stop → (items s (keyForm kind) i ≡ bad) ⊎ Greater i
   unfolding probeAt
   stopped i e = go (itemAt s (keyForm kind) i) refl
     where
@@ -94,72 +93,88 @@ module _ (s : List ℕ) (kind : Kind) (k : Key) where
       go (At at len after) q = inr (greater-at i _ after (items-at s (keyForm kind) i q) _ refl (rw q at e))
       go Bad q = inl (items-bad s (keyForm kind) i q)
 
-  -- ## "how many leading keys, up to the first greater one, are not greater"
-  pub lead-none : (n i : ℕ) → n ≤ 0 → lead compareKeys k (keysIn s kind n i) ≡ 0
+  -- ## The loops
+  -- "how many leading keys, up to the first greater one, are not greater"
+  pub record Leading (left i passed answer : ℕ) : Type 0 where
+    pub so-far : passed + lead compareKeys k (keysIn s kind left i) ≡ answer
+
+  -- "the first equal key that comes before any greater one"
+  pub record Finding (left i j : ℕ) (answer : Found) : Type 0 where
+    pub so-far : foundOf (findIn compareKeys k (entriesIn s kind left i j)) ≡ answer
+
+module _ {s : List ℕ} {kind : Kind} {k : Key} {left i passed answer : ℕ} (l : Leading s kind k left i passed answer) where
+  pub lead-none : left ≤ 0 → passed ≡ answer
   unfolding keysIn upTo
-  lead-none zero i h = refl
-  lead-none (suc n) i h = absurd (omega arith)
+  lead-none h =
+      let e : left ≡ 0 = omega arith in
+      let f : passed + lead compareKeys k (keysIn s kind 0 i) ≡ answer = rw e at (l .so-far) in
+      omega arith
 
-  pub lead-seen : (n i : ℕ) {next : ℕ} {same : Bool} → 0 < n → probeAt s kind i k ≡ UpTo next same
-      → lead compareKeys k (keysIn s kind n i) ≡ suc (lead compareKeys k (keysIn s kind (n - 1) next))
-  unfolding keysIn
-  lead-seen n i h e =
-      let v = seen i e in
-      rw (upTo-more (items s (keyForm kind)) n i h (v .reads), v .upto)
+  module _ {p : Probe} (h : 0 < left) (e : p ≡ probeAt s kind i k) where
+    pub lead-seen : {next : ℕ} {same : Bool} → p ≡ UpTo next same → Leading s kind k (left - 1) next (passed + 1) answer
+    unfolding keysIn
+    lead-seen t =
+        let v = seen s kind k i (sym e ∙ t) in
+        let f = rw (upTo-more (items s (keyForm kind)) left i h (v .reads), v .upto) at (l .so-far) in
+        record { so-far = omega arith }
 
-  pub lead-stopped : (n i : ℕ) → 0 < n → probeAt s kind i k ≡ Stop → lead compareKeys k (keysIn s kind n i) ≡ 0
-  unfolding keysIn
-  lead-stopped n i h e = go (stopped i e)
-    where
-      go : (items s (keyForm kind) i ≡ bad) ⊎ Greater i → lead compareKeys k (keysIn s kind n i) ≡ 0
-      go (inl b) = rw (upTo-bad (items s (keyForm kind)) n i b)
-      go (inr v) = rw (upTo-more (items s (keyForm kind)) n i h (v .reads), key-order .flip (keyIn s kind (v .spot)) k, v .order)
+    pub lead-stopped : p ≡ Stop → passed ≡ answer
+    unfolding keysIn
+    lead-stopped t = go (stopped s kind k i (sym e ∙ t)) (l .so-far)
+      where
+        go : (items s (keyForm kind) i ≡ bad) ⊎ Greater s kind k i → passed + lead compareKeys k (keysIn s kind left i) ≡ answer → passed ≡ answer
+        go (inl b) f = let g = rw (upTo-bad (items s (keyForm kind)) left i b) at f in omega arith
+        go (inr v) f =
+            let g = rw (upTo-more (items s (keyForm kind)) left i h (v .reads), key-order .flip (keyIn s kind (v .spot)) k, v .order) at f in
+            omega arith
 
-  -- ## "the first equal key that comes before any greater one"
-  paired-nil : (ks : List Spot) → paired s kind ks [] ≡ []
-  unfolding paired
-  paired-nil [] = refl
-  paired-nil (x ∷ ks) = refl
+paired-nil : (s : List ℕ) (kind : Kind) (ks : List Spot) → paired s kind ks [] ≡ []
+unfolding paired
+paired-nil s kind [] = refl
+paired-nil s kind (x ∷ ks) = refl
 
-  pub find-none : (n i j : ℕ) → n ≤ 0 → findIn compareKeys k (entriesIn s kind n i j) ≡ none
+module _ {s : List ℕ} {kind : Kind} {k : Key} {left i j : ℕ} {answer : Found} (l : Finding s kind k left i j answer) where
+  pub find-none : left ≤ 0 → found.Absent ≡ answer
   unfolding entriesIn upTo paired
-  find-none zero i j h = refl
-  find-none (suc n) i j h = absurd (omega arith)
+  find-none h =
+      let e : left ≡ 0 = omega arith in
+      rw e at (l .so-far)
 
-  pub find-bad : (n i j : ℕ) → itemAt s Bytes j ≡ Bad → findIn compareKeys k (entriesIn s kind n i j) ≡ none
+  pub find-bad : {it : Sized} → it ≡ itemAt s Bytes j → it ≡ Bad → found.Absent ≡ answer
   unfolding entriesIn
-  find-bad n i j e = rw (upTo-bad (items s Bytes) n j (items-bad s Bytes j e), paired-nil (upTo (items s (keyForm kind)) n i))
+  find-bad e t =
+      rw (upTo-bad (items s Bytes) left j (items-bad s Bytes j (sym e ∙ t)), paired-nil s kind (upTo (items s (keyForm kind)) left i)) at (l .so-far)
 
-  pub find-stopped : (n i j : ℕ) → 0 < n → probeAt s kind i k ≡ Stop → findIn compareKeys k (entriesIn s kind n i j) ≡ none
-  unfolding entriesIn paired
-  find-stopped n i j h e = go (stopped i e) (upTo (items s Bytes) n j)
-    where
-      go : (items s (keyForm kind) i ≡ bad) ⊎ Greater i → (vs : List Spot)
-          → findIn compareKeys k (paired s kind (upTo (items s (keyForm kind)) n i) vs) ≡ none
-      go (inl b) vs = rw (upTo-bad (items s (keyForm kind)) n i b)
-      go (inr v) [] = rw (paired-nil (upTo (items s (keyForm kind)) n i))
-      go (inr v) (x ∷ vs) = rw (upTo-more (items s (keyForm kind)) n i h (v .reads), v .order)
-
-  module _ (n i j : ℕ) {next at len after : ℕ} {same : Bool} (h : 0 < n) (e : probeAt s kind i k ≡ UpTo next same)
-      (f : itemAt s Bytes j ≡ At at len after) where
-    entryAt : Entry
-    entryAt = record { key = seen i e .spot; value = record { at = at; len = len } }
-
-    find-seen : findIn compareKeys k (entriesIn s kind n i j) ≡ seenThen same entryAt (findIn compareKeys k (entriesIn s kind (n - 1) next after))
-    unfolding entriesIn paired entryAt
-    find-seen =
-        let v = seen i e in
-        rw (upTo-more (items s (keyForm kind)) n i h (v .reads), upTo-more (items s Bytes) n j h (items-at s Bytes j f), v .order)
-
-    pub find-same : same ≡ true → foundOf (findIn compareKeys k (entriesIn s kind n i j)) ≡ found.At at len
-    unfolding entryAt
-    find-same t = ap foundOf find-seen ∙ go same t entryAt (findIn compareKeys k (entriesIn s kind (n - 1) next after))
+  module _ {p : Probe} (h : 0 < left) (e : p ≡ probeAt s kind i k) where
+    pub find-stopped : p ≡ Stop → found.Absent ≡ answer
+    unfolding entriesIn paired
+    find-stopped t = go (stopped s kind k i (sym e ∙ t)) (upTo (items s Bytes) left j) (l .so-far)
       where
-        go : (b : Bool) → b ≡ true → (x : Entry) (y : Option Entry) → foundOf (seenThen b x y) ≡ found.At (x .value .at) (x .value .len)
-        go b q x y = rw q
+        go : (items s (keyForm kind) i ≡ bad) ⊎ Greater s kind k i → (vs : List Spot)
+            → foundOf (findIn compareKeys k (paired s kind (upTo (items s (keyForm kind)) left i) vs)) ≡ answer → found.Absent ≡ answer
+        go (inl b) vs f = rw (upTo-bad (items s (keyForm kind)) left i b) at f
+        go (inr v) [] f = rw (paired-nil s kind (upTo (items s (keyForm kind)) left i)) at f
+        go (inr v) (x ∷ vs) f = rw (upTo-more (items s (keyForm kind)) left i h (v .reads), v .order) at f
 
-    pub find-less : same ≡ false → findIn compareKeys k (entriesIn s kind n i j) ≡ findIn compareKeys k (entriesIn s kind (n - 1) next after)
-    find-less t = find-seen ∙ go same t entryAt (findIn compareKeys k (entriesIn s kind (n - 1) next after))
-      where
-        go : (b : Bool) → b ≡ false → (x : Entry) (y : Option Entry) → seenThen b x y ≡ y
-        go b q x y = rw q
+    module _ {next at len after : ℕ} {same : Bool} {it : Sized} (t : p ≡ UpTo next same) (f : it ≡ itemAt s Bytes j) (u : it ≡ At at len after) where
+      pub find-same : same ≡ true → found.At at len ≡ answer
+      unfolding entriesIn paired
+      find-same q =
+          let v = seen s kind k i (sym e ∙ t) in
+          rw (
+            upTo-more (items s (keyForm kind)) left i h (v .reads),
+            upTo-more (items s Bytes) left j h (items-at s Bytes j (sym f ∙ u)),
+            v .order ∙ ap (λ (b : Bool). cond b order.Equal order.Less) q,
+          ) at (l .so-far)
+
+      pub find-less : same ≡ false → Finding s kind k (left - 1) next after answer
+      unfolding entriesIn paired
+      find-less q =
+          let v = seen s kind k i (sym e ∙ t) in
+          record {
+            so-far = rw (
+              upTo-more (items s (keyForm kind)) left i h (v .reads),
+              upTo-more (items s Bytes) left j h (items-at s Bytes j (sym f ∙ u)),
+              v .order ∙ ap (λ (b : Bool). cond b order.Equal order.Less) q,
+            ) at (l .so-far);
+          }
