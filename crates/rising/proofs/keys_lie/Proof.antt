@@ -1,31 +1,7 @@
-use mathlib.Core.Path.{sym, _∙_}
-use mathlib.Core.Bool.{true, false}
-use denote.Ref.{now}
-use Rattle.rising.specs.RisingLaws.{keys-none, keys-first}
 use borrow.Author.Needs.{needs}
+use Rattle.rising.specs.RisingLaws.{keys-none, keys-rise, keys-low}
 use Rattle.rising.proofs.keys_lie.Statement.{statement}
 use Rattle.rising.proofs.keys_lie.Tie as tie
-
-returns : tie.Need-returns
-returns c =
-    let a = c .before .before .before .before .args in
-    sym (keys-none (now (a .image)) (a .kind) (a .lo) (a .hi) (a .end) (a .n) (a .keys)
-    (sym (c .before .before .first-key .ensures) ∙ c .enum-told .given .1))
-
-returns-2 : tie.Need-returns-2
-returns-2 c =
-    let f = c .before .before .before .before in
-    let a = f .before .before .before .before .args in
-    c .rise-below .ensures
-    ∙ sym (keys-first (now (a .image)) (a .kind) (a .lo) (a .hi) (a .end) (a .n) (a .keys) true
-    (sym (f .before .before .first-key .ensures) ∙ f .f .given .1) (sym (c .before .before .from-bound .ensures) ∙ c .before .if1 .taken))
-
-returns-3 : tie.Need-returns-3
-returns-3 c =
-    let f = c .before .before .before in
-    let a = f .before .before .before .before .args in
-    sym (keys-first (now (a .image)) (a .kind) (a .lo) (a .hi) (a .end) (a .n) (a .keys) false
-    (sym (f .before .before .first-key .ensures) ∙ f .f .given .1) (sym (c .before .from-bound .ensures) ∙ c .if1 .left))
 
 pub keys-lie-spec : {M : Type 1} → statement M
 keys-lie-spec =
@@ -34,8 +10,8 @@ keys-lie-spec =
     (λ c κs. search needs)
     (λ c. search needs)
     (λ c. search needs)
-    returns
+    (λ c. search (needs, keys-none))
     (λ c κs. search needs)
     (λ c κs. search needs)
-    returns-2
-    returns-3)
+    (λ c. search (needs, keys-rise))
+    (λ c. search (needs, keys-low)))
