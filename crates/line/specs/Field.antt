@@ -2,15 +2,15 @@
 --
 --   Field                a name and its value
 --   fieldOf part         the field that a part of a line is, if it is one
---   partFrom line i      the part of a line from place i to the next comma or the line's end
---   partAt line i        the field that this part is, by places of the line
+--   partAt line i        the field that the part from place i on is, by places of the line
 use Prim.Native.Nat.{ℕ, suc, _+_}
 use mathlib.Core.Bool.{Bool, true, false, cond, _&&_}
 use mathlib.Core.List.{List}
 use mathlib.Core.Option.{Option, none, some}
 use lib.Dec.{eqb}
 use lib.ListN.{length, getD, take, drop}
-use Rattle.text.specs.Text.{span, within, isNot, isLetter}
+use Rattle.text.specs.Text.{span, within, isLetter}
+use Rattle.names.specs.Names.{partFrom}
 use Rattle.numeral.specs.declared.hex.Number.{Number}
 use Rattle.numeral.specs.declared.hex.Number.the-variants.{Value, Bad}
 use Rattle.numeral.specs.Hex.{hexOf}
@@ -24,9 +24,6 @@ pub record Field : Type 0 where
 abbrev pub colon : ℕ
 colon = 58
 
-abbrev pub comma : ℕ
-comma = 44
-
 abbrev pub valued : List ℕ → Number → Option Field
 valued name (Value v) = some (record { name = name; value = v })
 valued name Bad = none
@@ -36,9 +33,6 @@ unfoldable pub fieldOf : List ℕ → Option Field
 fieldOf p =
     let n = span isLetter p in
     cond (within 1 16 n && eqb (getD p n 0) colon) (valued (take n p) (hexOf (drop (suc n) p))) none
-
-abbrev pub partFrom : List ℕ → ℕ → List ℕ
-partFrom line i = take (span (isNot comma) (drop i line)) (drop i line)
 
 abbrev pub placed : ℕ → ℕ → Option Field → Part
 placed i n none = part.Bad

@@ -8,26 +8,20 @@ use native.Mathlib.Omega.{arith}
 use borrow.Author.Tests.{le-leb, lt-leb, eq-eqb, ne-eqb, ltb-true, ltb-false, eqb-true, not-false}
 use lib.Dec.{eqb, ltb}
 use lib.ListN.{length, getD, take, drop, length-drop, List·getD-eq-default}
-use lib.Seq.{getD-take, getD-drop, length-take-le, take-take, drop-drop}
+use lib.Seq.{getD-take, getD-drop, length-take-le, drop-drop}
 use Rattle.text.specs.Text.{span, within, isNot, isLetter}
-use Rattle.text.specs.Laws.{span-le, span-next, span-narrower, every-narrower, span-drop, drop-run, span-run, span-ends, span-goes-on}
+use Rattle.text.specs.Laws.{span-le, span-next, every-narrower, span-drop, drop-run, span-ends, span-goes-on}
 use Rattle.numeral.specs.declared.hex.Number.the-variants.{Bad}
 use Rattle.numeral.specs.declared.Numeral.the-variants as numeral
 use Rattle.numeral.specs.declared.Numeral.the-variants.{Read}
 use Rattle.numeral.specs.Hex.{digitOf, isDigit, hexValue, shaped, hexOf, hexRunAt}
 use Rattle.numeral.specs.HexRunLaws.{whole, hexOf-part}
 use Rattle.line.specs.declared.field.Part.the-variants as part
-use Rattle.line.specs.Field.{Field, colon, comma, valued, fieldOf, partFrom, partAt}
-use Rattle.line.specs.FieldLaws.{length-part}
+use Rattle.names.specs.Names.{comma, partFrom}
+use Rattle.names.specs.PartsLaws.{length-part, letters-size, letters-in}
+use Rattle.line.specs.Field.{Field, colon, valued, fieldOf, partAt}
 
--- ## Letters and digits are no commas
-letter-not-comma : (x : ℕ) → isLetter x ≡ true → isNot comma x ≡ true
-letter-not-comma x e = go (eqb x comma) refl
-  where
-    go : (t : Bool) → eqb x comma ≡ t → not t ≡ true
-    go true q = rw (eqb-true x comma q) at e
-    go false q = refl
-
+-- ## Digits are no commas
 digit-not-comma : (x : ℕ) → isDigit x ≡ true → isNot comma x ≡ true
 unfolding digitOf
 digit-not-comma x e = go (eqb x comma) refl
@@ -81,22 +75,6 @@ run-next s i v next e = go (shaped run) e
     go false e = absurd (let z : _≡_ {A = ℕ} 0 1 = cc in omega arith)
 
 module _ (line : List ℕ) (i colon-at : ℕ) (e : colon-at ≡ i + span isLetter (drop i line)) where
-  letters : span isLetter (partFrom line i) ≡ colon-at - i
-  letters = span-run isLetter (isNot comma) letter-not-comma (drop i line) ∙ omega arith
-
-  letters-in : colon-at - i ≤ span (isNot comma) (drop i line)
-  letters-in = omega (arith, span-narrower isLetter (isNot comma) letter-not-comma (drop i line))
-
-  pub letters-part : take (span isLetter (partFrom line i)) (partFrom line i) ≡ take (colon-at - i) (drop i line)
-  letters-part = rw letters (take-take (colon-at - i) (span (isNot comma) (drop i line)) (drop i line) letters-in)
-
-  pub letters-rest : i + length (partFrom line i) ≡ colon-at + span (isNot comma) (drop colon-at line)
-  letters-rest =
-      let place : i + (colon-at - i) ≡ colon-at = omega arith in
-      let more = span-drop (isNot comma) (colon-at - i) (drop i line) letters-in in
-      let there = rw (drop-drop (colon-at - i) i line, place) at more in
-      omega (arith, length-part line i)
-
   part-tested : fieldOf (partFrom line i) ≡
       cond (within 1 16 (colon-at - i) && eqb (getD line colon-at 0) colon)
       (valued (take (colon-at - i) (partFrom line i)) (hexOf (drop (suc (colon-at - i)) (partFrom line i))))
@@ -104,7 +82,7 @@ module _ (line : List ℕ) (i colon-at : ℕ) (e : colon-at ≡ i + span isLette
   unfolding fieldOf
   part-tested =
       let place : i + (colon-at - i) ≡ colon-at = omega arith in
-      rw (letters, colon-in-part line i (colon-at - i) letters-in, place)
+      rw (letters-size line i colon-at e, colon-in-part line i (colon-at - i) (letters-in line i colon-at e), place)
 
   pub part-unnamed : colon-at - i < 1 → partAt line i ≡ part.Bad
   unfolding partAt
@@ -129,7 +107,7 @@ module _ (line : List ℕ) (i colon-at : ℕ) (e : colon-at ≡ i + span isLette
         go true h = ltb-true (colon-at - i) (span (isNot comma) (drop i line)) h
         go false h =
             let all = ltb-false (colon-at - i) (span (isNot comma) (drop i line)) h in
-            let place : colon-at ≡ i + span (isNot comma) (drop i line) = omega (arith, letters-in) in
+            let place : colon-at ≡ i + span (isNot comma) (drop i line) = omega (arith, letters-in line i colon-at e) in
             absurd (after-part line i (rw place at at-colon))
 
     digits-part : drop (suc (colon-at - i)) (partFrom line i) ≡ partFrom line (colon-at + 1)
@@ -192,6 +170,6 @@ module _ (line : List ℕ) (i colon-at : ℕ) (e : colon-at ≡ i + span isLette
           (λ h. rw next-byte (ap not (eq-eqb (getD line next 0) comma (f (omega (arith, length-drop (colon-at + 1) line)))))) in
           let all : next ≡ colon-at + 1 + span (isNot comma) rest = omega arith in
           let name : i + length (take (colon-at - i) (partFrom line i)) ≡ colon-at =
-          omega (arith, length-take-le (colon-at - i) (partFrom line i) (omega (arith, letters-in, length-part line i))) in
+          omega (arith, length-take-le (colon-at - i) (partFrom line i) (omega (arith, letters-in line i colon-at e, length-part line i))) in
           let end : i + length (partFrom line i) ≡ next = part-end ∙ sym all in
           rw (part-whole, q, eq-eqb next (colon-at + 1 + span (isNot comma) rest) all, name, end)

@@ -2,57 +2,27 @@
 use Prim.Native.Nat.{ℕ, suc, _+_, _-_, _≤_, _<_}
 use mathlib.Core.Path.{_≡_, refl, sym, _∙_, ap}
 use mathlib.Core.Bool.{Bool, true, false, cond, _&&_}
-use mathlib.Core.List.{List, [], _∷_}
+use mathlib.Core.List.{List}
 use mathlib.Core.Option.{Option, none, some}
-use mathlib.Core.Logic.{_⊎_, inl, inr}
 use native.Mathlib.Omega.{arith}
-use native.Mathlib.Numerals.{add-one}
-use native.Mathlib.Nat.{eq-or-lt-of-le}
-use borrow.Author.Tests.{lt-ltb, le-ltb, ltb-true, ltb-false, eqb-true}
+use borrow.Author.Tests.{ltb-true, ltb-false, eqb-true}
 use lib.Dec.{eqb, ltb}
 use lib.ListN.{length, getD, take, drop, length-drop, List·getD-eq-default}
-use lib.Seq.{length-take-le, take-length, take-take, drop-drop}
-use Rattle.text.specs.Text.{span, within, isNot, isLetter, split}
-use Rattle.text.specs.Laws.{span-le, split-last, split-more}
+use lib.Seq.{take-take}
+use Rattle.text.specs.Text.{span, within, isNot, isLetter}
+use Rattle.text.specs.Laws.{span-le}
 use Rattle.numeral.specs.declared.hex.Number.{Number}
 use Rattle.numeral.specs.declared.hex.Number.the-variants.{Value, Bad}
 use Rattle.numeral.specs.Hex.{hexOf}
 use Rattle.line.specs.declared.field.Part.the-variants as part
-use Rattle.line.specs.Field.{Field, colon, comma, valued, fieldOf, partFrom, placed, partAt}
-use Rattle.line.specs.Reading.{partsAfter}
-
--- ## The parts of a line
-pub length-part : (line : List ℕ) (i : ℕ) → length (partFrom line i) ≡ span (isNot comma) (drop i line)
-length-part line i = length-take-le _ (drop i line) (span-le (isNot comma) (drop i line))
-
-pub parts-more : (line : List ℕ) (at : ℕ) → at < length line → partsAfter line at ≡ split comma (drop (at + 1) line)
-unfolding partsAfter
-parts-more line at h = rw (lt-ltb at (length line) h, add-one at)
-
-pub parts-none : (line : List ℕ) (at : ℕ) → length line ≤ at → partsAfter line at ≡ []
-unfolding partsAfter
-parts-none line at h = rw (le-ltb at (length line) h)
-
--- the part at i, and those after it
-pub parts-first : (line : List ℕ) (i : ℕ) →
-    split comma (drop i line) ≡ partFrom line i ∷ partsAfter line (i + length (partFrom line i))
-parts-first line i = rw (length-part line i) (go (eq-or-lt-of-le (span-le (isNot comma) rest)))
-  where
-    rest : List ℕ
-    rest = drop i line
-
-    n : ℕ
-    n = span (isNot comma) rest
-
-    go : (n ≡ length rest) ⊎ (n < length rest) → split comma rest ≡ take n rest ∷ partsAfter line (i + n)
-    go (inl e) = rw (parts-none line (i + n) (omega (arith, length-drop i line)), e, take-length rest) (split-last comma rest e)
-    go (inr h) =
-        let k : i + n + 1 ≡ i + suc n = omega arith in
-        rw (parts-more line (i + n) (omega (arith, length-drop i line)), k, ← drop-drop (suc n) i line) (split-more comma rest h)
+use Rattle.names.specs.Names.{comma, partFrom, nameOf}
+use Rattle.names.specs.PartsLaws.{length-part, length-name}
+use Rattle.line.specs.Field.{Field, colon, valued, fieldOf, placed, partAt}
 
 -- ## A field and the part that it is
 pub record Named (p : List ℕ) (f : Field) : Type 0 where
-  pub letters : f .name ≡ take (span isLetter p) p
+  pub letters : f .name ≡ nameOf p
+  pub right : within 1 16 (length (nameOf p)) ≡ true
   pub name : f .name ≡ take (length (f .name)) p
   pub inside : length (f .name) < length p
 
@@ -69,7 +39,7 @@ and-true true b e = (refl, e)
 and-true false b e = absurd (let z : _≡_ {A = ℕ} 0 1 = cc in omega arith)
 
 pub field-named : (p : List ℕ) (f : Field) → fieldOf p ≡ some f → Named p f
-unfolding fieldOf
+unfolding fieldOf nameOf
 field-named p f q = go (within 1 16 n && eqb (getD p n 0) colon) refl (hexOf (drop (suc n) p)) q
   where
     n : ℕ
@@ -78,11 +48,13 @@ field-named p f q = go (within 1 16 n && eqb (getD p n 0) colon) refl (hexOf (dr
     go : (b : Bool) → (within 1 16 n && eqb (getD p n 0) colon) ≡ b → (x : Number) → cond b (valued (take n p) x) none ≡ some f → Named p f
     go true e (Value v) q =
         let f-name : f .name ≡ take n p = cc in
-        let size : length (f .name) ≡ n = ap length f-name ∙ length-take-le n p (span-le isLetter p) in
+        let size : length (f .name) ≡ n = ap length f-name ∙ length-name p in
+        let tests = and-true (within 1 16 n) (eqb (getD p n 0) colon) e in
         record {
           letters = f-name;
+          right = rw (length-name p) (tests .0);
           name = rw size f-name;
-          inside = rw size (byte-inside p n 57 (and-true (within 1 16 n) (eqb (getD p n 0) colon) e .1));
+          inside = rw size (byte-inside p n 57 (tests .1));
         }
     go true e Bad q = absurd (let z : _≡_ {A = ℕ} 0 1 = cc in omega arith)
     go false e x q = absurd (let z : _≡_ {A = ℕ} 0 1 = cc in omega arith)

@@ -16,7 +16,8 @@ use lib.ListN.{length, getD, take, drop, replicate}
 use Rattle.text.specs.Text.{same, split}
 use Rattle.fletcher.specs.Fletcher.{fletcherOf}
 use Rattle.line.specs.declared.read.Fields.{Fields}
-use Rattle.line.specs.Field.{Field, comma, fieldOf}
+use Rattle.names.specs.Names.{comma}
+use Rattle.line.specs.Field.{Field, fieldOf}
 
 abbrev pub onSome : {A B : Type 0} → Option A → B → (A → B) → B
 onSome none b f = b

@@ -1,7 +1,7 @@
 -- Laws of what is read so far: one field more, and the fields of a line in their order.
 --
 --   added acc f     what is read so far, and the field f
---   clear acc fs    no field of fs has a name that is given already
+--   taken acc n     the name n is given already
 --   fill acc fs     what is read so far, and the fields fs
 use Prim.Native.Nat.{ℕ, zero, suc, _≤_, _<_}
 use mathlib.Core.Path.{_≡_, refl, sym, _∙_}
@@ -26,9 +26,8 @@ use Rattle.line.specs.FieldsLaws.{absent-value, getD-map}
 abbrev pub added : Fields → Field → Fields
 added acc f = put acc (slotOf (f .name)) (f .value)
 
-unfoldable pub clear : Fields → List Field → Bool
-clear acc [] = true
-clear acc (f ∷ fs) = not (getD (acc .given) (slotOf (f .name)) false) && clear acc fs
+abbrev pub taken : Fields → List ℕ → Bool
+taken acc n = getD (acc .given) (slotOf n) false
 
 unfoldable pub fill : Fields → List Field → Fields
 fill acc [] = acc
@@ -88,22 +87,15 @@ module _ (acc : Fields) (s v t : ℕ) (h : s ≡ t → s < 11) (z : Sized acc) w
       go true e = getD-set (acc .values) s t v 0 (omega (arith, z .values, ltb-true s 11 e))
       go false e = rw (ne-eqb s t (λ q. omega (arith, h q, ltb-false s 11 e)))
 
--- the fields clear of one more: clear before, and none has its name
-pub clear-added : (acc : Fields) (f : Field) → Sized acc → slotOf (f .name) < 11 → (fs : List Field) →
-    clear (added acc f) fs ≡ (clear acc fs && not (has (f .name) fs))
-unfolding clear has
-clear-added acc f z h [] = refl
-clear-added acc f z h (g ∷ fs) =
-    let t = slotOf (g .name) in
-    rw (put-given acc (slotOf (f .name)) (f .value) t (λ q. h) z, clear-added acc f z h fs, same-slot (f .name) (g .name) h)
-    (go (eqb (slotOf (f .name)) t) (getD (acc .given) t false) (clear acc fs) (has (f .name) fs))
+-- a known name more is given
+pub taken-added : (acc : Fields) (q : List ℕ) (v : ℕ) → Sized acc → slotOf q < 11 → (n : List ℕ) →
+    taken (put acc (slotOf q) v) n ≡ (same q n || taken acc n)
+taken-added acc q v z h n =
+    rw (put-given acc (slotOf q) v (slotOf n) (λ e. h) z, same-slot q n h) (either (eqb (slotOf q) (slotOf n)) (taken acc n))
   where
-    go : (b g c h : Bool) → (not (cond b true g) && (c && not h)) ≡ ((not g && c) && not (b || h))
-    go true true c h = refl
-    go true false true h = refl
-    go true false false h = refl
-    go false true c h = refl
-    go false false c h = refl
+    either : (b g : Bool) → cond b true g ≡ (b || g)
+    either true g = refl
+    either false g = refl
 
 -- ## What the fields fill in
 fill-good : (fs : List Field) (acc : Fields) → fill acc fs .good ≡ acc .good
@@ -159,10 +151,8 @@ getD-alike a zero k = refl
 getD-alike a (suc n) zero = refl
 getD-alike a (suc n) (suc k) = getD-alike a n k
 
-pub clear-start : (fs : List Field) → clear nothingYet fs ≡ true
-unfolding clear
-clear-start [] = refl
-clear-start (f ∷ fs) = rw (getD-alike false 11 (slotOf (f .name))) (clear-start fs)
+pub none-taken : (n : List ℕ) → taken nothingYet n ≡ false
+none-taken n = getD-alike false 11 (slotOf n)
 
 pub start-sized : Sized nothingYet
 start-sized = record { given = refl; values = refl }

@@ -7,39 +7,39 @@ use mathlib.Core.Option.{Option, none, some}
 use native.Mathlib.Omega.{arith}
 use borrow.Author.Tests.{ltb-true, ltb-false}
 use lib.Dec.{ltb}
-use lib.ListN.{getD, take, List·getD-eq-default}
-use Rattle.text.specs.Text.{span, isLetter, same, split}
+use lib.ListN.{getD, List·getD-eq-default}
+use Rattle.text.specs.Text.{same, split}
 use Rattle.line.specs.declared.read.Fields.{Fields}
-use Rattle.line.specs.Field.{Field, comma, fieldOf}
+use Rattle.names.specs.Names.{comma, nameOf, namedIn}
+use Rattle.names.specs.Tree.{clear}
+use Rattle.names.specs.DistinctLaws.{clear-like, clear-none, clear-more}
+use Rattle.line.specs.Field.{Field, fieldOf}
 use Rattle.line.specs.Fields.{onSome, has, noneTwice, allFields, fieldsOf, known, listed, noFields, readOf}
-use Rattle.line.specs.Reading.{slotOf, namedIn, nothingYet, seen, finish}
+use Rattle.line.specs.Reading.{slotOf, nothingYet, seen, finish}
 use Rattle.line.specs.FieldLaws.{field-named}
-use Rattle.line.specs.FillLaws.{Sized, added, clear, fill, put-sized, put-unknown, clear-added, clear-start, start-sized, fill-listed}
+use Rattle.line.specs.FillLaws.{Sized, added, taken, fill, put-sized, put-unknown, taken-added, none-taken, start-sized, fill-listed}
 
 -- ## The rest of a line as its fields
-named-has : (name : List ℕ) (ps : List (List ℕ)) (fs : List Field) → allFields ps ≡ some fs → namedIn name ps ≡ has name fs
+pub named-has : (name : List ℕ) (ps : List (List ℕ)) (fs : List Field) → allFields ps ≡ some fs → namedIn name ps ≡ has name fs
 unfolding namedIn allFields has
 named-has name [] fs e = let n : fs ≡ [] = cc in rw n
 named-has name (p ∷ ps) fs e = go (fieldOf p) refl (allFields ps) (named-has name ps) e
   where
     go : (o : Option Field) → fieldOf p ≡ o → (os : Option (List Field)) → ((gs : List Field) → os ≡ some gs → namedIn name ps ≡ has name gs) →
         onSome o none (λ f. onSome os none (λ gs. some (f ∷ gs))) ≡ some fs →
-        cond (same name (take (span isLetter p) p)) true (namedIn name ps) ≡ has name fs
+        (same name (nameOf p) || namedIn name ps) ≡ has name fs
     go none q os ih e = absurd (let z : _≡_ {A = ℕ} 0 1 = cc in omega arith)
     go (some f) q none ih e = absurd (let z : _≡_ {A = ℕ} 0 1 = cc in omega arith)
     go (some f) q (some gs) ih e =
-        let n : fs ≡ f ∷ gs = cc in rw (n, ih gs refl, ← field-named p f q .letters) (either (same name (f .name)) (has name gs))
-      where
-        either : (a b : Bool) → cond a true b ≡ (a || b)
-        either true b = refl
-        either false b = refl
+        let n : fs ≡ f ∷ gs = cc in rw (n, ih gs refl, field-named p f q .letters)
 
 -- a known name is given already, or it comes again; the others are clear of what is given
-known-once : (g c h t : Bool) (x y : Fields) → cond g y (cond ((c && not h) && t) x y) ≡ cond ((not g && c) && (not h && t)) x y
+known-once : (g c h t : Bool) (x y : Fields) → cond g y (cond ((not h && c) && t) x y) ≡ cond ((not g && c) && (not h && t)) x y
 known-once true c h t x y = refl
 known-once false true true t x y = refl
 known-once false true false t x y = refl
-known-once false false h t x y = refl
+known-once false false true t x y = refl
+known-once false false false t x y = refl
 
 other-once : (c h t : Bool) (x y : Fields) → cond h y (cond (c && t) x y) ≡ cond (c && (not h && t)) x y
 other-once true true t x y = refl
@@ -54,23 +54,29 @@ both-ways false x = refl
 -- what is read of a first field and of the fields fs after it
 module _ (acc : Fields) (f : Field) (fs : List Field) (ps : List (List ℕ)) (z : Sized acc) (e : allFields ps ≡ some fs) where
   finish-first : cond (seen acc (slotOf (f .name)) (f .name) ps) noFields
-      (cond (clear (added acc f) fs && noneTwice fs) (fill (added acc f) fs) noFields) ≡
-      cond (clear acc (f ∷ fs) && noneTwice (f ∷ fs)) (fill acc (f ∷ fs)) noFields
-  unfolding seen clear noneTwice fill
+      (cond (clear (taken (added acc f)) ps && noneTwice fs) (fill (added acc f) fs) noFields) ≡
+      cond ((not (taken acc (f .name)) && clear (taken acc) ps) && (not (has (f .name) fs) && noneTwice fs)) (fill (added acc f) fs) noFields
+  unfolding seen
   finish-first = go (ltb slot 11) refl
     where
       slot : ℕ
       slot = slotOf (f .name)
 
+      given : Bool
+      given = getD (acc .given) slot false
+
       go : (b : Bool) → ltb slot 11 ≡ b →
-          cond (cond b (getD (acc .given) slot false) (namedIn (f .name) ps)) noFields
-          (cond (clear (added acc f) fs && noneTwice fs) (fill (added acc f) fs) noFields) ≡
-          cond ((not (getD (acc .given) slot false) && clear acc fs) && (not (has (f .name) fs) && noneTwice fs))
-          (fill (added acc f) fs)
-          noFields
+          cond (cond b given (namedIn (f .name) ps)) noFields
+          (cond (clear (taken (added acc f)) ps && noneTwice fs) (fill (added acc f) fs) noFields) ≡
+          cond ((not given && clear (taken acc) ps) && (not (has (f .name) fs) && noneTwice fs)) (fill (added acc f) fs) noFields
       go true k =
-          rw (clear-added acc f z (ltb-true slot 11 k) fs)
-          (known-once (getD (acc .given) slot false) (clear acc fs) (has (f .name) fs) (noneTwice fs) (fill (added acc f) fs) noFields)
+          let more = taken-added acc (f .name) (f .value) z (ltb-true slot 11 k) in
+          rw (
+            clear-like (taken (added acc f)) (λ n. same (f .name) n || taken acc n) more ps,
+            clear-more (taken acc) (f .name) ps,
+            named-has (f .name) ps fs e,
+          )
+          (known-once given (clear (taken acc) ps) (has (f .name) fs) (noneTwice fs) (fill (added acc f) fs) noFields)
       go false k =
           let out = ltb-false slot 11 k in
           rw (
@@ -78,37 +84,40 @@ module _ (acc : Fields) (f : Field) (fs : List Field) (ps : List (List ℕ)) (z 
             List·getD-eq-default (acc .given) false {n = slot} (omega (arith, z .given)),
             named-has (f .name) ps fs e,
           )
-          (other-once (clear acc fs) (has (f .name) fs) (noneTwice fs) (fill acc fs) noFields)
+          (other-once (clear (taken acc) ps) (has (f .name) fs) (noneTwice fs) (fill acc fs) noFields)
 
 finish-fields : (ps : List (List ℕ)) (acc : Fields) → Sized acc →
-    finish acc ps ≡ onSome (allFields ps) noFields (λ fs. cond (clear acc fs && noneTwice fs) (fill acc fs) noFields)
+    finish acc ps ≡ onSome (allFields ps) noFields (λ fs. cond (clear (taken acc) ps && noneTwice fs) (fill acc fs) noFields)
 unfolding finish allFields clear noneTwice fill
 finish-fields [] acc z = refl
-finish-fields (p ∷ ps) acc z = go (fieldOf p) (λ f. finish-fields ps (added acc f) (put-sized acc (slotOf (f .name)) (f .value) z))
+finish-fields (p ∷ ps) acc z = go (fieldOf p) refl (λ f. finish-fields ps (added acc f) (put-sized acc (slotOf (f .name)) (f .value) z))
   where
-    after : Fields → Option (List Field) → Fields
-    after a o = onSome o noFields (λ fs. cond (clear a fs && noneTwice fs) (fill a fs) noFields)
+    after : Fields → Bool → Option (List Field) → Fields
+    after a c o = onSome o noFields (λ fs. cond (c && noneTwice fs) (fill a fs) noFields)
 
-    go : (o : Option Field) → ((f : Field) → finish (added acc f) ps ≡ after (added acc f) (allFields ps)) →
+    go : (o : Option Field) → fieldOf p ≡ o →
+        ((f : Field) → finish (added acc f) ps ≡ after (added acc f) (clear (taken (added acc f)) ps) (allFields ps)) →
         onSome o noFields (λ f. cond (seen acc (slotOf (f .name)) (f .name) ps) noFields (finish (added acc f) ps)) ≡
-        after acc (onSome o none (λ f. onSome (allFields ps) none (λ fs. some (f ∷ fs))))
-    go none ih = refl
-    go (some f) ih = rw (ih f) (rest (allFields ps) refl)
+        after acc (not (taken acc (nameOf p)) && clear (taken acc) ps) (onSome o none (λ f. onSome (allFields ps) none (λ fs. some (f ∷ fs))))
+    go none q ih = refl
+    go (some f) q ih = rw (ih f, ← field-named p f q .letters) (rest (allFields ps) refl)
       where
         rest : (os : Option (List Field)) → allFields ps ≡ os →
-            cond (seen acc (slotOf (f .name)) (f .name) ps) noFields (after (added acc f) os) ≡
-            after acc (onSome os none (λ fs. some (f ∷ fs)))
+            cond (seen acc (slotOf (f .name)) (f .name) ps) noFields (after (added acc f) (clear (taken (added acc f)) ps) os) ≡
+            after acc (not (taken acc (f .name)) && clear (taken acc) ps) (onSome os none (λ fs. some (f ∷ fs)))
         rest none e = both-ways (seen acc (slotOf (f .name)) (f .name) ps) noFields
         rest (some fs) e = finish-first acc f fs ps z e
 
 pub finish-all : (line : List ℕ) → finish nothingYet (split comma line) ≡ readOf line
 unfolding readOf fieldsOf
-finish-all line = finish-fields (split comma line) nothingYet start-sized ∙ go (allFields (split comma line))
+finish-all line =
+    finish-fields (split comma line) nothingYet start-sized ∙
+    rw (clear-none (taken nothingYet) none-taken (split comma line)) (go (allFields (split comma line)))
   where
-    go : (o : Option (List Field)) → onSome o noFields (λ fs. cond (clear nothingYet fs && noneTwice fs) (fill nothingYet fs) noFields) ≡
+    go : (o : Option (List Field)) → onSome o noFields (λ fs. cond (noneTwice fs) (fill nothingYet fs) noFields) ≡
         onSome (onSome o none (λ fs. cond (noneTwice fs) (some fs) none)) noFields listed
     go none = refl
-    go (some fs) = rw (clear-start fs) (once (noneTwice fs) refl)
+    go (some fs) = once (noneTwice fs) refl
       where
         once : (t : Bool) → noneTwice fs ≡ t → cond t (fill nothingYet fs) noFields ≡ onSome (cond t (some fs) none) noFields listed
         once true e = fill-listed fs e

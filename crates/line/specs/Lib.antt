@@ -2,7 +2,6 @@ pub mod Line
 pub mod Field
 pub mod Fields
 pub mod Reading
-pub mod Names
 pub mod LineLaws
 pub mod FieldLaws
 pub mod FieldAtLaws
@@ -11,9 +10,5 @@ pub mod SlotLaws
 pub mod ReadingLaws
 pub mod FillLaws
 pub mod FinishLaws
-pub mod NameAtLaws
-pub mod SeekLaws
-pub mod NamesLaws
-pub mod BrokenLaws
-pub mod JudgeLaws
+pub mod ApartLaws
 pub mod SumLaws

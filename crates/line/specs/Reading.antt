@@ -3,21 +3,20 @@
 --
 --   numberOf name names   the place of a name in a list of names; their count where it is not there
 --   slotOf name           the number of a known name, 11 for any other
---   namedIn name parts    a part begins with the name: its first letters are no more and no fewer
 --   put acc slot v        what is read so far, and the value of the name numbered slot, if there is one
 --   seen acc slot name parts   the name is given already; if it is not known, it is in the parts that follow
 --   finish acc parts      what a line says of which acc is read and the parts are left
---   partsAfter line at    the parts that follow the one that ends at place at
 --   endsRight line n      what follows the comma at n is a right `fletcher`
 use Prim.Native.Nat.{ℕ, suc}
 use mathlib.Core.Bool.{Bool, true, false, cond, _&&_}
 use mathlib.Core.List.{List, [], _∷_}
 use lib.Dec.{eqb, ltb}
-use lib.ListN.{length, getD, take, drop, set, replicate}
-use Rattle.text.specs.Text.{span, isLetter, same, split}
+use lib.ListN.{getD, take, drop, set, replicate}
+use Rattle.text.specs.Text.{same}
 use Rattle.fletcher.specs.Fletcher.{fletcherOf}
 use Rattle.line.specs.declared.read.Fields.{Fields}
-use Rattle.line.specs.Field.{Field, comma, fieldOf}
+use Rattle.names.specs.Names.{namedIn}
+use Rattle.line.specs.Field.{Field, fieldOf}
 use Rattle.line.specs.Fields.{onSome, known, nameFletcher, noFields}
 
 unfoldable pub numberOf : List ℕ → List (List ℕ) → ℕ
@@ -26,10 +25,6 @@ numberOf name (n ∷ names) = cond (same n name) 0 (suc (numberOf name names))
 
 unfoldable pub slotOf : List ℕ → ℕ
 slotOf name = numberOf name known
-
-unfoldable pub namedIn : List ℕ → List (List ℕ) → Bool
-namedIn name [] = false
-namedIn name (p ∷ ps) = cond (same name (take (span isLetter p) p)) true (namedIn name ps)
 
 abbrev pub nothingYet : Fields
 nothingYet = record { good = true; given = replicate 11 false; values = replicate 11 0 }
@@ -48,9 +43,6 @@ finish acc [] = acc
 finish acc (p ∷ ps) =
     onSome (fieldOf p) noFields
     (λ f. cond (seen acc (slotOf (f .name)) (f .name) ps) noFields (finish (put acc (slotOf (f .name)) (f .value)) ps))
-
-unfoldable pub partsAfter : List ℕ → ℕ → List (List ℕ)
-partsAfter line at = cond (ltb at (length line)) (split comma (drop (suc at) line)) []
 
 unfoldable pub endsRight : List ℕ → ℕ → Bool
 endsRight line n =

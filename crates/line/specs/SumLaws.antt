@@ -14,7 +14,8 @@ use Rattle.text.specs.Text.{span, every, isNot, same}
 use Rattle.text.specs.Laws.{every-span, every-on}
 use Rattle.fletcher.specs.Fletcher.{fletcherOf}
 use Rattle.line.specs.declared.field.Part.the-variants as part
-use Rattle.line.specs.Field.{comma, partFrom, partAt}
+use Rattle.names.specs.Names.{comma, partFrom}
+use Rattle.line.specs.Field.{partAt}
 use Rattle.line.specs.Fields.{nameFletcher, lastComma, rightSum}
 use Rattle.line.specs.Reading.{endsRight}
 use Rattle.line.specs.FieldLaws.{Placed, part-bad}

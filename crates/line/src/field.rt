@@ -1,9 +1,6 @@
 // One field of a line: a name of 1 to 16 letters, a colon, and digits.
 use numeral::Numeral;
-ghost use Prim.Native.Nat.{_+_, _<_};
 ghost use mathlib.Core.Path.{_≡_};
-ghost use lib.ListN.{drop};
-ghost use Rattle.text.specs.Text.{span, isLetter};
 ghost use Rattle.line.specs.Field.{partAt};
 
 // A field by places of its line: where its colon stands, its value, and where it ends.
@@ -16,43 +13,11 @@ pub enum Part {
     Bad,
 }
 
-// Whether a byte below `a` is a letter.
-fn is_capital(b: u8) -> bool
-    requires { ⌜ b < 97 ⌝ }
-    ensures { λ r. ⌜ r ≡ isLetter b ⌝ }
-{
-    if b < 65 {
-        return false;
-    }
-    b <= 90
-}
-
-// The place after the letters at `from`.
-pub fn letters_end(s: &[u8], from: usize) -> usize
-    ensures { λ r. ⌜ r ≡ from + span isLetter (drop from (now (s .entry))) ⌝ }
-{
-    let mut i = from;
-    while i < s.len() {
-        let b = s[i];
-        if b < 97 {
-            if is_capital(b) {} else {
-                return i;
-            }
-        } else {
-            if 122 < b {
-                return i;
-            }
-        }
-        i += 1;
-    }
-    i
-}
-
 // The field that stands between `from` and the next comma or the line's end.
 pub fn field_at(line: &[u8], from: usize) -> Part
     ensures { λ r. ⌜ r ≡ partAt (now (line .entry)) from ⌝ }
 {
-    let colon = letters_end(line, from);
+    let colon = text::letters_end(line, from);
     let n = colon - from;
     if n < 1 {
         return Part::Bad;

@@ -1,6 +1,5 @@
 // Text lines: the line of an area, its fields, and the sum in its last field.
 mod field;
-mod names;
 mod read;
 mod sum;
 

@@ -1,13 +1,11 @@
 // All fields of a line, in one pass: the values of the names that the file's lines are asked for.
 use super::field::Part;
 use super::field::field_at;
-use super::field::letters_end;
-use super::names::Names;
-use super::names::check_names;
 ghost use mathlib.Core.Path.{_≡_};
 ghost use mathlib.Core.Bool.{true, false};
 ghost use Rattle.line.specs.Fields.{readOf, noFields};
-ghost use Rattle.line.specs.Reading.{slotOf, namedIn, seen, partsAfter};
+ghost use Rattle.names.specs.Names.{partsAfter, distinctNames};
+ghost use Rattle.line.specs.Reading.{slotOf, seen};
 
 // What a line says of each known name, by the name's number: whether it is given, and its value.
 // A line that breaks a rule is not good and gives nothing.
@@ -95,22 +93,6 @@ fn slot_of(name: &[u8]) -> usize
     Fields::NAMES
 }
 
-// Whether a part after the one that ends at `at` begins with `name`: with these letters and no more.
-fn named_later(line: &[u8], at: usize, name: &[u8]) -> bool
-    ensures { λ r. ⌜ r ≡ namedIn (now (name .entry)) (partsAfter (now (line .entry)) at) ⌝ }
-{
-    let mut i = at;
-    while i < line.len() {
-        let from = i + 1;
-        let to = letters_end(line, from);
-        if text::same_bytes(name, &line[from..to]) {
-            return true;
-        }
-        i = text::find_byte(line, to, 44);
-    }
-    false
-}
-
 // Whether the name numbered `slot` is given already or, where it is not known, comes again after `end`.
 // Nothing is looked for where the names are known to be `apart`.
 fn repeats(f: Fields, slot: usize, apart: bool, line: &[u8], end: usize, name: &[u8]) -> bool
@@ -123,14 +105,14 @@ fn repeats(f: Fields, slot: usize, apart: bool, line: &[u8], end: usize, name: &
     if slot < Fields::NAMES {
         f.given[slot]
     } else {
-        named_later(line, end, name)
+        names::named_later(line, end, name)
     }
 }
 
-// What `line` says, field by field. Each unknown name is compared with all after it, unless the line
-// is known to be good.
+// What `line` says, field by field. Each unknown name is compared with all after it, unless the names are
+// known to be `apart`.
 fn read_each(line: &[u8], apart: bool) -> Fields
-    requires { ⌜ (apart ≡ true → readOf (now line) .good ≡ true) ⌝ }
+    requires { ⌜ (apart ≡ true → distinctNames (now line) ≡ true) ⌝ }
     ensures { λ r. ⌜ r ≡ readOf (now (line .entry)) ⌝ }
 {
     let mut fields = Fields {
@@ -170,10 +152,9 @@ pub fn read_fields(line: &[u8]) -> Fields
     if line.len() <= SHORT {
         return read_each(line, false);
     }
-    let r = check_names(line);
-    match r {
-        Names::Right => read_each(line, true),
-        Names::Bad => Fields::bad(),
-        Names::Many => read_each(line, false),
+    if names::are_distinct(line) {
+        read_each(line, true)
+    } else {
+        Fields::bad()
     }
 }

@@ -6,7 +6,7 @@ ghost use mathlib.Core.Path.{_≡_};
 ghost use mathlib.Core.Bool.{true};
 ghost use lib.ListN.{length, drop};
 ghost use Rattle.text.specs.Text.{every, isNot};
-ghost use Rattle.line.specs.Field.{comma};
+ghost use Rattle.names.specs.Names.{comma};
 ghost use Rattle.line.specs.Fields.{rightSum};
 ghost use Rattle.line.specs.Reading.{endsRight};
 

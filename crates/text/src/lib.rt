@@ -1,7 +1,7 @@
-// Runs of bytes. Definitions and laws in specs/; here the searches that have one byte as their aim.
+// Runs of bytes. Definitions and laws in specs/; here the searches and tests that code makes of them.
 ghost use Prim.Native.Nat.{_+_, _<_, _≤_};
 ghost use mathlib.Core.Path.{_≡_};
-ghost use Rattle.text.specs.Text.{span, isNot, every, isPrintable, same};
+ghost use Rattle.text.specs.Text.{span, isNot, isLetter, every, isPrintable, same};
 ghost use lib.ListN.{length, take, drop};
 
 // The place of the first `b` from `from` on; where there is none, the place after the last byte.
@@ -12,6 +12,38 @@ pub fn find_byte(s: &[u8], from: usize, b: u8) -> usize
     while i < s.len() {
         if s[i] == b {
             return i;
+        }
+        i += 1;
+    }
+    i
+}
+
+// Whether a byte below `a` is a letter.
+fn is_capital(b: u8) -> bool
+    requires { ⌜ b < 97 ⌝ }
+    ensures { λ r. ⌜ r ≡ isLetter b ⌝ }
+{
+    if b < 65 {
+        return false;
+    }
+    b <= 90
+}
+
+// The place after the letters at `from`.
+pub fn letters_end(s: &[u8], from: usize) -> usize
+    ensures { λ r. ⌜ r ≡ from + span isLetter (drop from (now (s .entry))) ⌝ }
+{
+    let mut i = from;
+    while i < s.len() {
+        let b = s[i];
+        if b < 97 {
+            if is_capital(b) {} else {
+                return i;
+            }
+        } else {
+            if 122 < b {
+                return i;
+            }
         }
         i += 1;
     }

@@ -6,7 +6,7 @@ use denote.Ref.{now}
 use lib.ListN.{length, drop}
 use Rattle.text.specs.Text.{every, isNot}
 use Rattle.text.specs.Laws.{every-end}
-use Rattle.line.specs.Field.{comma}
+use Rattle.names.specs.Names.{comma}
 use Rattle.line.specs.Fields.{lastComma}
 use Rattle.line.specs.SumLaws.{last-here, last-on, alone-on, right-at, right-none}
 use borrow.Author.Needs.{needs}
