@@ -10,7 +10,7 @@ use lib.Dec.{eqb}
 use lib.ListN.{length, getD, drop, length-drop}
 use lib.Seq.{drop-cons}
 use Rattle.fletcher.specs.declared.Sums.{Sums}
-use Rattle.fletcher.specs.Fletcher.{reduced, start, addWord, sums}
+use Rattle.fletcher.specs.Fletcher.{reduced, addWord, sums}
 
 -- the word at an even place, and those after it
 pub sums-more : (t : Sums) (s : List ℕ) (i : ℕ) → i + 1 < length s
@@ -31,19 +31,6 @@ sums-short t (x ∷ (y ∷ s)) h = absurd (omega arith)
 pub sums-end : (t : Sums) (s : List ℕ) (i : ℕ) → length s - i ≤ 1 → sums t (drop i s) ≡ t
 sums-end t s i h = sums-short t (drop i s) (simp length-drop h)
 
--- ## A sum is 1 to 65535
-pub record Small (t : Sums) : Type 0 where
-  pub first : t .first ≤ 65535
-  pub second : t .second ≤ 65535
-
-reduced-small : (x : ℕ) → reduced x ≤ 65535
-unfolding reduced
-reduced-small x = go (eqb (x % 65535) 0)
-  where
-    go : (zero : Bool) → cond zero 65535 (x % 65535) ≤ 65535
-    go true = omega arith
-    go false = omega arith
-
 -- a sum of two reduced numbers is reduced by adding what is over 65535 to the rest
 pub reduced-fold : (x : ℕ) → 0 < x → x ≤ 131070 → reduced x ≡ x % 65536 + x / 65536
 unfolding reduced
@@ -52,14 +39,3 @@ reduced-fold x h l = go (eqb (x % 65535) 0) refl
     go : (t : Bool) → eqb (x % 65535) 0 ≡ t → cond t 65535 (x % 65535) ≡ x % 65536 + x / 65536
     go true e = omega (arith, eqb-true (x % 65535) 0 e)
     go false e = omega (arith, eqb-false (x % 65535) 0 e)
-
-pub sums-small : (t : Sums) (s : List ℕ) → Small t → Small (sums t s)
-unfolding sums addWord
-sums-small t [] h = h
-sums-small t (x ∷ []) h = h
-sums-small t (x ∷ (y ∷ s)) h =
-    sums-small (addWord t (x * 256 + y)) s (record { first = reduced-small _; second = reduced-small _ })
-
-pub start-small : Small start
-unfolding start
-start-small = record { first = omega arith; second = omega arith }

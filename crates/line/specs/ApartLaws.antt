@@ -16,7 +16,7 @@ use Rattle.names.specs.PartsLaws.{parts-more}
 use Rattle.names.specs.DistinctLaws.{clear-like, clear-more, apart-none, First, apart-both}
 use Rattle.line.specs.declared.read.Fields.{Fields}
 use Rattle.line.specs.Field.{Field, fieldOf}
-use Rattle.line.specs.Fields.{onSome, has, noneTwice, allFields, fieldsOf, listed, noFields, readOf}
+use Rattle.line.specs.Fields.{onSome, noneTwice, allFields, fieldsOf, listed, noFields, readOf}
 use Rattle.line.specs.Reading.{slotOf, nothingYet, put, seen, finish}
 use Rattle.line.specs.FieldLaws.{Placed, field-named}
 use Rattle.line.specs.ReadingLaws.{parts-placed, finish-put}

@@ -4,7 +4,7 @@
 --   fieldOf part         the field that a part of a line is, if it is one
 --   partAt line i        the field that the part from place i on is, by places of the line
 use Prim.Native.Nat.{ℕ, suc, _+_}
-use mathlib.Core.Bool.{Bool, true, false, cond, _&&_}
+use mathlib.Core.Bool.{cond, _&&_}
 use mathlib.Core.List.{List}
 use mathlib.Core.Option.{Option, none, some}
 use lib.Dec.{eqb}

@@ -42,10 +42,6 @@ getD-map f [] n d e h = absurd (omega arith)
 getD-map f (x ∷ l) zero d e h = refl
 getD-map f (x ∷ l) (suc n) d e h = getD-map f l n d e (omega arith)
 
-pub read-bad : (line : List ℕ) → fieldsOf line ≡ none → readOf line ≡ noFields
-unfolding readOf
-read-bad line e = rw e
-
 pub read-good : (line : List ℕ) (fs : List Field) → fieldsOf line ≡ some fs → readOf line ≡ listed fs
 unfolding readOf
 read-good line fs e = rw e

@@ -14,7 +14,7 @@ use Rattle.names.specs.Names.{comma, nameOf, namedIn}
 use Rattle.names.specs.Tree.{clear}
 use Rattle.names.specs.DistinctLaws.{clear-like, clear-none, clear-more}
 use Rattle.line.specs.Field.{Field, fieldOf}
-use Rattle.line.specs.Fields.{onSome, has, noneTwice, allFields, fieldsOf, known, listed, noFields, readOf}
+use Rattle.line.specs.Fields.{onSome, has, noneTwice, allFields, fieldsOf, listed, noFields, readOf}
 use Rattle.line.specs.Reading.{slotOf, nothingYet, seen, finish}
 use Rattle.line.specs.FieldLaws.{field-named}
 use Rattle.line.specs.FillLaws.{Sized, added, taken, fill, put-sized, put-unknown, taken-added, none-taken, start-sized, fill-listed}

@@ -16,7 +16,7 @@ use Rattle.text.specs.Text.{same}
 use Rattle.fletcher.specs.Fletcher.{fletcherOf}
 use Rattle.line.specs.declared.read.Fields.{Fields}
 use Rattle.names.specs.Names.{namedIn}
-use Rattle.line.specs.Field.{Field, fieldOf}
+use Rattle.line.specs.Field.{fieldOf}
 use Rattle.line.specs.Fields.{onSome, known, nameFletcher, noFields}
 
 unfoldable pub numberOf : List ℕ → List (List ℕ) → ℕ

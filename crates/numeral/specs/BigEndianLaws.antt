@@ -1,12 +1,10 @@
 -- Laws of big-endian numbers, over any width.
 use Prim.Native.Nat.{ℕ, zero, suc, _+_, _*_, _^_, _≤_, _<_}
 use mathlib.Core.Path.{_≡_}
-use mathlib.Core.Bool.{Bool, true, false, cond}
 use mathlib.Core.List.{List}
-use native.Mathlib.Nat.{add-zero, add-suc, add-assoc, pow-suc, one-le-pow, mul-assoc}
+use native.Mathlib.Nat.{add-zero, add-suc, add-assoc, pow-suc, mul-assoc}
 use native.Mathlib.Omega.{arith}
 use borrow.Author.Tests.{le-leb, lt-leb}
-use lib.Dec.{leb}
 use lib.ListN.{length, getD}
 use Rattle.numeral.specs.BigEndian.{bigEndian, bigEndianAt}
 
@@ -40,18 +38,3 @@ bigEndianAt-add a b s i h =
       bigEndianAt-inside a s i (omega arith),
       bigEndianAt-inside b s (i + a) (omega arith),
     ) (bigEndian-add a b s i)
-
--- ## Of bytes, the number is below 256 to the width
-module _ (s : List ℕ) (bytes : (k : ℕ) → getD s k 0 < 256) (i : ℕ) where
-  bigEndian-lt : (w : ℕ) → bigEndian w s i < 256 ^ w
-  unfolding bigEndian
-  bigEndian-lt zero = omega arith
-  bigEndian-lt (suc w) = let ih = bigEndian-lt w in omega (arith, bytes (i + w), pow-suc 256 w)
-
-  pub bigEndianAt-lt : (w : ℕ) → bigEndianAt w s i < 256 ^ w
-  unfolding bigEndianAt
-  bigEndianAt-lt w = go (leb (i + w) (length s))
-    where
-      go : (t : Bool) → cond t (bigEndian w s i) 0 < 256 ^ w
-      go true = bigEndian-lt w
-      go false = one-le-pow w 256 (omega arith)

@@ -9,11 +9,11 @@ use native.Mathlib.Omega.{arith}
 use borrow.Author.Tests.{lt-ltb, le-ltb, ltb-true, ltb-false}
 use lib.Dec.{ltb}
 use lib.ListN.{length, getD}
-use Rattle.text.specs.Text.{every, isPrintable}
-use Rattle.text.specs.Laws.{true-within, every-first, every-wider}
+use Rattle.text.specs.Text.{every}
+use Rattle.text.specs.Laws.{every-first}
 use Rattle.numeral.specs.declared.hex.Number.the-variants as number
 use Rattle.numeral.specs.Hex.{digitOf, isDigit, digitByte, hexFrom, hexValue, hexBefore, hexText, shaped, hexOf}
-use Rattle.numeral.specs.HexLaws.{Kind, decimal, letter, other, kind, Shaped, shaped-true, shaped-known}
+use Rattle.numeral.specs.HexLaws.{Shaped, shaped-true, shaped-known}
 use Rattle.numeral.specs.HexLaws.{digitOf-decimal, digitOf-digitByte, digitByte-digitOf, digitOf-zero}
 
 -- ## The digits of a number, the low one last
@@ -38,14 +38,6 @@ power-more (suc zero) n l h = absurd (omega arith)
 power-more (suc (suc k)) n l h = omega arith
 
 -- ## What is written reads back
-digit-printable : (b : ℕ) → isDigit b ≡ true → isPrintable b ≡ true
-digit-printable b h = go (kind b)
-  where
-    go : Kind b → isPrintable b ≡ true
-    go (decimal l u e) = true-within 32 126 b (omega arith) (omega arith)
-    go (letter l u e) = true-within 32 126 b (omega arith) (omega arith)
-    go (other e) = absurd (omega (arith, ltb-true (digitOf b) 16 h))
-
 digit-true : (d : ℕ) → d < 16 → isDigit (digitByte d) ≡ true
 digit-true d h = rw (digitOf-digitByte d h) (lt-ltb d 16 h)
 
@@ -118,9 +110,6 @@ hexText-length n = length-hexBefore 16 n [] (omega arith)
 pub hexText-digits : (n : ℕ) → every isDigit (hexText n) ≡ true
 unfolding hexText every
 hexText-digits n = every-hexBefore 16 n [] refl
-
-pub hexText-printable : (n : ℕ) → every isPrintable (hexText n) ≡ true
-hexText-printable n = every-wider isDigit isPrintable digit-printable (hexText n) (hexText-digits n)
 
 hexText-shaped : (n : ℕ) → n < 2 ^ 64 → shaped (hexText n) ≡ true
 unfolding hexText hexBefore

@@ -112,16 +112,6 @@ module _ (P Q : ℕ → Bool) (narrower : (x : ℕ) → P x ≡ true → Q x ≡
       go false e true f ih = rw e (sym (eqb·zero-suc (span Q s)))
       go false e false f ih = refl
 
-  pub every-wider : (s : List ℕ) → every P s ≡ true → every Q s ≡ true
-  unfolding every
-  every-wider [] h = refl
-  every-wider (x ∷ s) h = go (P x) refl (every-wider s) h
-    where
-      go : (t : Bool) → P x ≡ t → (every P s ≡ true → every Q s ≡ true) → cond t (every P s) false ≡ true →
-          cond (Q x) (every Q s) false ≡ true
-      go true e ih h = rw (narrower x e) (ih h)
-      go false e ih h = absurd (let z : _≡_ {A = ℕ} 0 1 = cc in omega arith)
-
 -- ## Parts between separators
 -- the last part
 pub split-last : (b : ℕ) (s : List ℕ) → span (isNot b) s ≡ length s → split b s ≡ s ∷ []
