@@ -7,13 +7,14 @@
 --   hexOf s           what the text s is as a number
 --   hexRunAt s i      what the run of digits at place i of s is as a number, and the place after the run
 --   hexText n         the digits of n
+--   digitsOf n        the digits of n at the end of 16 bytes, after zeros, and the place where they begin
 --   textOf d          the digits that `Digits` holds
 use Prim.Native.Nat.{ℕ, zero, suc, _+_, _*_, _-_, _/_, _%_, _<_}
 use mathlib.Core.Path.{_≡_}
 use mathlib.Core.Bool.{Bool, true, false, cond, not, _&&_, _||_}
-use mathlib.Core.List.{List, [], _∷_}
+use mathlib.Core.List.{List, [], _∷_, _++_}
 use lib.Dec.{eqb, ltb, leb}
-use lib.ListN.{length, getD, take, drop}
+use lib.ListN.{length, getD, take, drop, replicate}
 use Rattle.text.specs.Text.{span, every, within}
 use Rattle.numeral.specs.declared.Numeral.{Numeral}
 use Rattle.numeral.specs.declared.Numeral.the-variants as numeral
@@ -62,7 +63,11 @@ hexText n = hexBefore 16 n []
 abbrev pub textOf : Digits → List ℕ
 textOf d = drop (d .start) (d .bytes)
 
--- what `write_hex` gives: the digits, and that they stand in the array; the bytes before them are left free
+unfoldable pub digitsOf : ℕ → Digits
+digitsOf n = let zeros = 16 - length (hexText n) in record { bytes = replicate zeros 0 ++ hexText n; start = zeros }
+
+-- what `write_hex` gives, and what callers need of it: the digits, and that they stand in the array
 pub record Written (n : ℕ) (d : Digits) : Type 0 where
+  pub whole : d ≡ digitsOf n
   pub text : textOf d ≡ hexText n
   pub inside : d .start < length (d .bytes)
