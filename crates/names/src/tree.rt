@@ -56,7 +56,7 @@ fn named_at(line: &[u8], at: usize, name: &[u8]) -> bool
 }
 
 // Where the way of `name` ends in a tree of `used` nodes.
-pub fn seek(
+pub(crate) fn seek(
     line: &[u8],
     from: usize,
     places: &[u16; 2048],
@@ -87,7 +87,7 @@ pub fn seek(
 }
 
 // Whether `name` is in a tree of `used` nodes.
-pub fn is_in(
+pub(crate) fn is_in(
     line: &[u8],
     from: usize,
     places: &[u16; 2048],
@@ -107,7 +107,13 @@ pub fn is_in(
 }
 
 // Node `k`, for the name at `at` from the root's on, in a free slot.
-pub fn grow(places: &mut [u16; 2048], kids: &mut [u16; 4096], k: usize, slot: usize, at: usize)
+pub(crate) fn grow(
+    places: &mut [u16; 2048],
+    kids: &mut [u16; 4096],
+    k: usize,
+    slot: usize,
+    at: usize,
+)
     requires { ⌜ (k ≤ 2047) × (slot < 4096) × (at < 65536) ⌝ }
     ensures { λ _. ⌜ (now (places .exit) ≡ set (now (places .entry)) k at)
         × (now (kids .exit) ≡ set (set (set (now (kids .entry)) (2 * k) 0) (2 * k + 1) 0) slot k) ⌝ }

@@ -94,8 +94,8 @@ returns-5 c =
     )
 
 -- where the part ends
-end-inside : (c : tie.Else4 Inv-loop μ-loop) →
-    (c .before .before .before .before .before .before .before .before .before .before .before .before .before .before .before .before .loop .i < c .before .find-byte .result) × (c .before .find-byte .result < length (line-at (c .before .before .before .before .before .before .before .before .before .before .before .before)))
+end-inside : (c : tie.Else4 Inv-loop μ-loop) → let k = c .before .before .before .before .before .before .before .before .before .before .before .before in
+    (place k < c .before .find-byte .result) × (c .before .find-byte .result < length (line-at k))
 end-inside c =
     let k = c .before .before .before .before .before .before .before .before .before .before .before .before in
     let f = c .before .find-byte .ensures in
