@@ -16,13 +16,13 @@ use Rattle.walk.specs.declared.Next.the-variants as next
 use Rattle.walk.specs.declared.Step.{Step as Stepped}
 use Rattle.map.specs.declared.entry.Item.{Item}
 use Rattle.map.specs.declared.entry.Item.the-variants as item
-use Rattle.mvstore.specs.declared.Newest.{Newest}
-use Rattle.mvstore.specs.declared.Value.{Value}
-use Rattle.mvstore.specs.declared.Entry.{Entry}
-use Rattle.mvstore.specs.declared.Count.{Count}
-use Rattle.mvstore.specs.declared.Id.{Id}
-use Rattle.mvstore.specs.declared.Step.{Step}
-use Rattle.mvstore.specs.declared.Report.{Report}
+use Rattle.mvstore.specs.declared.answer.Newest.{Newest}
+use Rattle.mvstore.specs.declared.answer.Value.{Value}
+use Rattle.mvstore.specs.declared.answer.Entry.{Entry}
+use Rattle.mvstore.specs.declared.answer.Count.{Count}
+use Rattle.mvstore.specs.declared.answer.Id.{Id}
+use Rattle.mvstore.specs.declared.answer.Step.{Step}
+use Rattle.mvstore.specs.declared.answer.Report.{Report}
 
 -- opening
 unfoldable pub newestOut : Opened → Newest

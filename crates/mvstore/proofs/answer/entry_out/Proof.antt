@@ -1,8 +1,8 @@
 use mathlib.Core.Path.{sym, ap}
 use Rattle.mvstore.specs.Exports.{entryOut}
 use borrow.Author.Needs.{needs}
-use Rattle.mvstore.proofs.entry_out.Statement.{statement}
-use Rattle.mvstore.proofs.entry_out.Tie as tie
+use Rattle.mvstore.proofs.answer.entry_out.Statement.{statement}
+use Rattle.mvstore.proofs.answer.entry_out.Tie as tie
 
 returns : tie.Need-returns
 unfolding entryOut

@@ -1,8 +1,8 @@
 use mathlib.Core.Path.{sym, _∙_, ap}
 use Rattle.mvstore.specs.Exports.{nextOut, stepOut}
 use borrow.Author.Needs.{needs}
-use Rattle.mvstore.proofs.step_out.Statement.{statement}
-use Rattle.mvstore.proofs.step_out.Tie as tie
+use Rattle.mvstore.proofs.answer.step_out.Statement.{statement}
+use Rattle.mvstore.proofs.answer.step_out.Tie as tie
 
 returns : tie.Need-returns
 unfolding stepOut

@@ -3,8 +3,8 @@ use Rattle.metadata.specs.Answers.{idSaid}
 use Rattle.metadata.specs.declared.Id.{Id}
 use Rattle.mvstore.specs.Exports.{idOut}
 use borrow.Author.Needs.{needs}
-use Rattle.mvstore.proofs.id_out.Statement.{statement}
-use Rattle.mvstore.proofs.id_out.Tie as tie
+use Rattle.mvstore.proofs.answer.id_out.Statement.{statement}
+use Rattle.mvstore.proofs.answer.id_out.Tie as tie
 
 returns : tie.Need-returns
 unfolding idOut
