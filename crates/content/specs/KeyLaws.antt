@@ -8,7 +8,7 @@ use Prim.Native.Nat.{ℕ, _+_, _-_, _≤_, _<_}
 use mathlib.Core.Path.{_≡_, refl, sym, _∙_, ap}
 use mathlib.Core.List.{List, [], _∷_}
 use mathlib.Core.Logic.{_⊎_, inl, inr}
-use mathlib.Core.Bool.{Bool, true, false, cond}
+use mathlib.Core.Bool.{Bool, true, false, cond, true≢false}
 use native.Mathlib.Omega.{arith}
 use lib.ListN.{take, drop}
 use Rattle.order.specs.declared.Order.{Order}
@@ -69,7 +69,7 @@ module _ (s : List ℕ) (kind : Kind) (k : Key) where
       let n : after ≡ next = cc in
       let t : true ≡ same = cc in
       record { spot = spot; reads = rw (← n) r; upto = rw (key-order .flip (keyIn s kind spot) k, q); order = rw (← t) q }
-  seen-at i spot after r order.Greater q e = absurd (let z : _≡_ {A = ℕ} 0 1 = cc in omega arith)
+  seen-at i spot after r order.Greater q e = absurd (true≢false cc)
 
   seen : (i : ℕ) {next : ℕ} {same : Bool} → probeAt s kind i k ≡ UpTo next same → Seen i next same
   unfolding probeAt
@@ -77,12 +77,12 @@ module _ (s : List ℕ) (kind : Kind) (k : Key) where
     where
       go : (it : Sized) → itemAt s (keyForm kind) i ≡ it → Seen i next same
       go (At at len after) q = seen-at i _ after (items-at s (keyForm kind) i q) _ refl (rw q at e)
-      go Bad q = absurd (let f : Stop ≡ UpTo next same = rw q at e in let z : _≡_ {A = ℕ} 0 1 = cc in omega arith)
+      go Bad q = absurd (let f : Stop ≡ UpTo next same = rw q at e in true≢false cc)
 
   greater-at : (i : ℕ) (spot : Spot) (after : ℕ) → items s (keyForm kind) i ≡ got spot after
       → (o : Order) → compareKeys (keyIn s kind spot) k ≡ o → three o (UpTo after false) (UpTo after true) Stop ≡ Stop → Greater i
-  greater-at i spot after r order.Less q e = absurd (let z : _≡_ {A = ℕ} 0 1 = cc in omega arith)
-  greater-at i spot after r order.Equal q e = absurd (let z : _≡_ {A = ℕ} 0 1 = cc in omega arith)
+  greater-at i spot after r order.Less q e = absurd (true≢false cc)
+  greater-at i spot after r order.Equal q e = absurd (true≢false cc)
   greater-at i spot after r order.Greater q e = record { spot = spot; next = after; reads = r; order = q }
 
   stopped : (i : ℕ) → probeAt s kind i k ≡ Stop → (items s (keyForm kind) i ≡ bad) ⊎ Greater i

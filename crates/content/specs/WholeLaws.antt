@@ -5,6 +5,7 @@
 --   childrenIn s kind n ..   the children of an inner page, by the places of its parts
 use Prim.Native.Nat.{ℕ, zero, suc, _+_, _^_, _≤_, _<_}
 use mathlib.Core.Path.{_≡_, refl, _∙_, ap}
+use mathlib.Core.Bool.{true≢false}
 use mathlib.Core.List.{List, [], _∷_, map}
 use mathlib.Core.Option.{Option, none, some}
 use native.Mathlib.Omega.{arith}
@@ -109,7 +110,7 @@ module _ (s : List ℕ) where
           let one = count-sum s c q in
           let rest = ih b (one .1) k in
           (omega arith, rest .1)
-      go ih bad q k = absurd (let z : _≡_ {A = ℕ} 0 1 = cc in omega arith)
+      go ih bad q k = absurd (true≢false cc)
 
   counted-whole : (n i : ℕ) {total next : ℕ} → counted s n i ≡ sums.Sum total next
       → (length (countsIn s n i) ≡ n) × (sum (countsIn s n i) ≡ total) × (total < countLimit)
@@ -122,7 +123,7 @@ module _ (s : List ℕ) where
           let f : d .1 ≡ total = cc in
           let r = counts-sum n (i, 0) (omega arith) q in
           (upTo-length (countAt s) n (i, 0) q, omega arith, omega arith)
-      go none q h = absurd (let z : _≡_ {A = ℕ} 0 1 = cc in omega arith)
+      go none q h = absurd (true≢false cc)
 
   inner-whole : (kind : Kind) (n positions counts keys : ℕ) {e total : ℕ} → InnerPassed s kind n positions counts keys e total
       → InnerWhole s kind n positions counts keys total
@@ -172,19 +173,19 @@ module _ (image : List ℕ) (c : Place) (p map : ℕ) (kind : Kind) where
   leaf-below {es} e = go (judgedAt image c p map kind) (judged-whole image c p map kind) e
     where
       go : (j : Judged) → Whole image kind j → pageOf image kind j ≡ ok (leaf es) → length es < 2 ^ 31
-      go (Refused r) w q = absurd (let z : _≡_ {A = ℕ} 0 1 = cc in omega arith)
+      go (Refused r) w q = absurd (true≢false cc)
       go (Leaf n keys values e) w q =
           let f : entriesIn (take e image) kind n keys values ≡ es = cc in
           omega (arith, w .few, w .all-entries, ap length f)
-      go (Inner n positions counts keys e total) w q = absurd (let z : _≡_ {A = ℕ} 0 1 = cc in omega arith)
+      go (Inner n positions counts keys e total) w q = absurd (true≢false cc)
 
   pub inner-below : {cs : Children Key} → pageIn image c p map kind ≡ ok (inner cs) → total cs < 2 ^ 48
   unfolding pageIn pageOf
   inner-below {cs} e = go (judgedAt image c p map kind) (judged-whole image c p map kind) e
     where
       go : (j : Judged) → Whole image kind j → pageOf image kind j ≡ ok (inner cs) → total cs < 2 ^ 48
-      go (Refused r) w q = absurd (let z : _≡_ {A = ℕ} 0 1 = cc in omega arith)
-      go (Leaf n keys values e) w q = absurd (let z : _≡_ {A = ℕ} 0 1 = cc in omega arith)
+      go (Refused r) w q = absurd (true≢false cc)
+      go (Leaf n keys values e) w q = absurd (true≢false cc)
       go (Inner n positions counts keys e sum) w q =
           let f : childrenIn (take e image) kind n positions counts keys ≡ cs = cc in
           omega (arith, w .below, total-whole w, ap total f)

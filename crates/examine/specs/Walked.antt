@@ -2,6 +2,7 @@
 -- step, and then Done, which is given again.
 use Prim.Native.Nat.{ℕ}
 use mathlib.Core.Path.{_≡_, refl, sym, _∙_, ap}
+use mathlib.Core.Bool.{true≢false}
 use mathlib.Core.List.{List, [], _∷_}
 use native.Mathlib.Omega.{arith}
 use Rattle.refusal.specs.Refusal.{ok}
@@ -42,10 +43,10 @@ unfolding settled
 going-on w v e (yield x i is) h = sym (ap (λ (s : Stepped). s .walk .last) h)
 going-on w v e over h =
     let got : yields.Done ≡ yieldOf e = ap (λ (s : Stepped). s .got) h in
-    absurd (let z : _≡_ {A = ℕ} 0 1 = cc in omega arith)
+    absurd (true≢false cc)
 going-on w v e (stop r) h =
     let got : yields.Refused r ≡ yieldOf e = ap (λ (s : Stepped). s .got) h in
-    absurd (let z : _≡_ {A = ℕ} 0 1 = cc in omega arith)
+    absurd (true≢false cc)
 
 module _ {image : List ℕ} {map kind : ℕ} (m : Map image map kind) where
   -- the call is the step in the open store, with the key read at its place

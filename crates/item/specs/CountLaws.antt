@@ -4,7 +4,7 @@
 use Prim.Native.Nat.{ℕ, _+_, _-_, _≤_, _<_}
 use mathlib.Core.Path.{_≡_, refl, sym, _∙_, ap}
 use mathlib.Core.List.{List}
-use mathlib.Core.Bool.{Bool, true, false, cond}
+use mathlib.Core.Bool.{Bool, true, false, cond, true≢false}
 use mathlib.Core.Option.{Option, none, some}
 use native.Mathlib.Omega.{arith}
 use borrow.Author.Tests.{lt-ltb, le-ltb, ltb-true}
@@ -48,12 +48,12 @@ module _ (s : List ℕ) where
           let p : _≡_ {A = ℕ × ℕ} (next, c .1 + u) d = cc in
           let g : c .1 + u ≡ d .1 = ap (λ (x : ℕ × ℕ). x .1) p in
           (omega arith, omega arith)
-      by u next false q h = absurd (let z : _≡_ {A = ℕ} 0 1 = cc in omega arith)
+      by u next false q h = absurd (true≢false cc)
 
       go : (r : Numeral) → onNumeral r bad (λ u next. cond (ltb (c .1 + u) countLimit) (got u (next, c .1 + u)) bad) ≡ got v d
           → (d .1 ≡ c .1 + v) × (d .1 < countLimit)
       go (Read u next) h = by u next (ltb (c .1 + u) countLimit) refl h
-      go Bad h = absurd (let z : _≡_ {A = ℕ} 0 1 = cc in omega arith)
+      go Bad h = absurd (true≢false cc)
 
 -- ## A loop
 pub record Summing (s : List ℕ) (left i sum : ℕ) (answer : Counted) : Type 0 where
@@ -108,7 +108,7 @@ module _ (s : List ℕ) (n at k : ℕ) where
   nth-count-stuck h e = nth-count h ∙ go (after (countAt s) k (at, 0)) e
     where
       go : (o : Option (ℕ × ℕ)) → countedOf o ≡ Stuck → onSome o 0 countOf ≡ 0
-      go (some c) q = absurd (let z : _≡_ {A = ℕ} 0 1 = cc in omega arith)
+      go (some c) q = absurd (true≢false cc)
       go none q = refl
 
   module _ {total i : ℕ} (h : k < n) (e : counted s k at ≡ Sum total i) where
@@ -121,7 +121,7 @@ module _ (s : List ℕ) (n at k : ℕ) where
             let f : j ≡ i = cc in
             let g : m ≡ total = cc in
             rw (f, g)
-        go none q = absurd (let z : _≡_ {A = ℕ} 0 1 = cc in omega arith)
+        go none q = absurd (true≢false cc)
 
     pub nth-count-bad : varAt countLimit s i ≡ Bad → getD (upTo (countAt s) n (at, 0)) k 0 ≡ 0
     nth-count-bad b = nth-count-sum ∙ rw (count-bad s i total b)

@@ -5,7 +5,7 @@ use Prim.Native.Nat.{ℕ, zero, suc, _+_, _*_, _-_, _≤_, _<_}
 use mathlib.Core.Path.{_≡_, refl, sym, _∙_, ap}
 use mathlib.Core.List.{List}
 use mathlib.Core.Option.{Option, none, some}
-use mathlib.Core.Bool.{Bool, true, false}
+use mathlib.Core.Bool.{Bool, true, false, true≢false}
 use native.Mathlib.Omega.{arith}
 use borrow.Author.Tests.{le-leb, lt-leb, leb-true, leb-false}
 use lib.Dec.{leb}
@@ -41,7 +41,7 @@ module _ (s : List ℕ) (f : Form) where
     where
       go : (o : Option ℕ) → after (items s f) n i ≡ o → skipOf o ≡ Past next → length (upTo (items s f) n i) ≡ n
       go (some d) q h = upTo-length (items s f) n i q
-      go none q h = absurd (let z : _≡_ {A = ℕ} 0 1 = cc in omega arith)
+      go none q h = absurd (true≢false cc)
 
 -- ## A loop
 pub record Skipping (s : List ℕ) (f : Form) (left i : ℕ) (answer : Skip) : Type 0 where
@@ -68,7 +68,7 @@ module _ (s : List ℕ) (f : Form) (n at k : ℕ) (h : k < n) where
   nth-stuck e = upTo-nth (items s f) n k at h ∙ go (after (items s f) k at) e
     where
       go : (o : Option ℕ) → skipOf o ≡ Stuck → onSome o none (itemOf (items s f)) ≡ none
-      go (some j) q = absurd (let z : _≡_ {A = ℕ} 0 1 = cc in omega arith)
+      go (some j) q = absurd (true≢false cc)
       go none q = refl
 
   module _ {i : ℕ} (e : skipped s f k at ≡ Past i) where
@@ -78,7 +78,7 @@ module _ (s : List ℕ) (f : Form) (n at k : ℕ) (h : k < n) where
       where
         go : (o : Option ℕ) → skipOf o ≡ Past i → onSome o none (itemOf (items s f)) ≡ itemOf (items s f) i
         go (some j) q = ap (itemOf (items s f)) cc
-        go none q = absurd (let z : _≡_ {A = ℕ} 0 1 = cc in omega arith)
+        go none q = absurd (true≢false cc)
 
     pub nth-at : {start len next : ℕ} → itemAt s f i ≡ At start len next
         → getElem? (upTo (items s f) n at) k ≡ some (record { at = start; len = len })

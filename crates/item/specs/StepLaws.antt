@@ -3,6 +3,7 @@
 --   onSome o stop go    what follows from an Option
 use Prim.Native.Nat.{ℕ, zero, suc, _-_, _≤_, _<_}
 use mathlib.Core.Path.{_≡_, refl, ap}
+use mathlib.Core.Bool.{true≢false}
 use mathlib.Core.List.{List, [], _∷_}
 use mathlib.Core.Option.{Option, none, some}
 use native.Mathlib.Numerals.{sub-one}
@@ -51,7 +52,7 @@ module _ {A C : Type 0} (read : C → Step A C) where
       go : ((d : C) → after read n d ≡ some e → length (upTo read n d) ≡ n) → (t : Step A C) → onStep t none (λ a d. after read n d) ≡ some e
           → length (onStep t [] (λ a d. a ∷ upTo read n d)) ≡ suc n
       go ih (got a d) q = ap suc (ih d q)
-      go ih bad q = absurd (let z : _≡_ {A = ℕ} 0 1 = cc in omega arith)
+      go ih bad q = absurd (true≢false cc)
 
   -- ## An item by its number
   pub upTo-past : (n k : ℕ) (c : C) → n ≤ k → getElem? (upTo read n c) k ≡ none

@@ -2,10 +2,9 @@
 -- distinct says nothing.
 use Prim.Native.Nat.{ℕ, _+_, _-_, _<_}
 use mathlib.Core.Path.{_≡_, refl, sym, _∙_}
-use mathlib.Core.Bool.{Bool, true, false, cond, not, _&&_, _||_}
+use mathlib.Core.Bool.{Bool, true, false, cond, not, _&&_, _||_, true≢false}
 use mathlib.Core.List.{List, [], _∷_}
 use mathlib.Core.Option.{Option, none, some}
-use native.Mathlib.Omega.{arith}
 use borrow.Author.Tests.{ltb-true, ltb-false}
 use lib.Dec.{ltb}
 use lib.ListN.{length, getD, take, drop}
@@ -33,8 +32,8 @@ distinct-fields (p ∷ ps) fs e = go (fieldOf p) refl (allFields ps) refl (disti
         ((gs : List Field) → allFields ps ≡ some gs → distinct ps ≡ noneTwice gs) →
         onSome o none (λ f. onSome os none (λ gs. some (f ∷ gs))) ≡ some fs →
         ((within 1 16 (length (nameOf p)) && not (namedIn (nameOf p) ps)) && distinct ps) ≡ noneTwice fs
-    go none q os r ih e = absurd (let z : _≡_ {A = ℕ} 0 1 = cc in omega arith)
-    go (some f) q none r ih e = absurd (let z : _≡_ {A = ℕ} 0 1 = cc in omega arith)
+    go none q os r ih e = absurd (true≢false cc)
+    go (some f) q none r ih e = absurd (true≢false cc)
     go (some f) q (some gs) r ih e =
         let n : fs ≡ f ∷ gs = cc in
         let named = field-named p f q in
@@ -99,10 +98,10 @@ module _ {line : List ℕ} {known-apart : Bool} {acc : Fields} {i : ℕ} (r : Re
       let f = first t in
       unseen acc name (partsAfter line end) (rw part-name at (f .none)) (rw part-name at (f .once))
 
-  pub read-on : seen acc (slotOf name) name (partsAfter line end) ≡ false → end < length line →
+  pub read-on : {b : Bool} → b ≡ seen acc (slotOf name) name (partsAfter line end) → b ≡ false → end < length line →
       {acc' : Fields} → acc' ≡ put acc (slotOf name) value → {next : ℕ} → next ≡ end + 1 → ReadUpTo line known-apart acc' next
   unfolding apart
-  read-on s h a n =
+  read-on s t h a n =
       rw (a, n)
       (record {
         sized = put-sized acc (slotOf name) value (r .sized);
@@ -110,5 +109,5 @@ module _ {line : List ℕ} {known-apart : Bool} {acc : Fields} {i : ℕ} (r : Re
             let f = first t in
             let clears = clear-put acc name (partsAfter line end) (rw part-name at (f .none)) (rw part-name at (f .once)) value (r .sized) (f .clears) in
             rw (← parts-more line end h, clears) (f .rest);
-        rest = rw (← parts-more line end h) (sym (finish-put acc line i p s) ∙ r .rest);
+        rest = rw (← parts-more line end h) (sym (finish-put acc line i p s t) ∙ r .rest);
       })

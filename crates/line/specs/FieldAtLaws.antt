@@ -1,7 +1,7 @@
 -- Laws of reading one field, one for each branch of `field_at`: a run of letters, a colon, a run of digits, then a comma or the end.
 use Prim.Native.Nat.{ℕ, suc, _+_, _-_, _≤_, _<_}
 use mathlib.Core.Path.{_≡_, refl, sym, _∙_, ap}
-use mathlib.Core.Bool.{Bool, true, false, cond, not, _&&_, and-false}
+use mathlib.Core.Bool.{Bool, true, false, cond, not, _&&_, and-false, true≢false}
 use mathlib.Core.List.{List}
 use mathlib.Core.Option.{none}
 use native.Mathlib.Omega.{arith}
@@ -72,7 +72,7 @@ run-next s i v next e = go (shaped run) e
 
     go : (t : Bool) → cond t (Read (hexValue run) (i + length run)) numeral.Bad ≡ Read v next → next ≡ i + span isDigit (drop i s)
     go true e = let n : next ≡ i + length run = cc in omega (arith, length-take-le _ (drop i s) (span-le isDigit (drop i s)))
-    go false e = absurd (let z : _≡_ {A = ℕ} 0 1 = cc in omega arith)
+    go false e = absurd (true≢false cc)
 
 module _ (line : List ℕ) (i colon-at : ℕ) (e : colon-at ≡ i + span isLetter (drop i line)) where
   part-tested : fieldOf (partFrom line i) ≡

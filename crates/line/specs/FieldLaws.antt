@@ -1,7 +1,7 @@
 -- Laws of the fields of a line.
 use Prim.Native.Nat.{ℕ, suc, _+_, _-_, _≤_, _<_}
 use mathlib.Core.Path.{_≡_, refl, sym, _∙_, ap}
-use mathlib.Core.Bool.{Bool, true, false, cond, _&&_}
+use mathlib.Core.Bool.{Bool, true, false, cond, _&&_, and-eq-true-iff, true≢false}
 use mathlib.Core.List.{List}
 use mathlib.Core.Option.{Option, none, some}
 use native.Mathlib.Omega.{arith}
@@ -34,10 +34,6 @@ byte-inside p n b e = go (ltb n (length p)) refl
     go true h = ltb-true n (length p) h
     go false h = absurd (omega (arith, eqb-true (getD p n 0) (suc b) e, List·getD-eq-default p 0 {n = n} (ltb-false n (length p) h)))
 
-pub and-true : (a b : Bool) → (a && b) ≡ true → (a ≡ true) × (b ≡ true)
-and-true true b e = (refl, e)
-and-true false b e = absurd (let z : _≡_ {A = ℕ} 0 1 = cc in omega arith)
-
 pub field-named : (p : List ℕ) (f : Field) → fieldOf p ≡ some f → Named p f
 unfolding fieldOf nameOf
 field-named p f q = go (within 1 16 n && eqb (getD p n 0) colon) refl (hexOf (drop (suc n) p)) q
@@ -49,15 +45,15 @@ field-named p f q = go (within 1 16 n && eqb (getD p n 0) colon) refl (hexOf (dr
     go true e (Value v) q =
         let f-name : f .name ≡ take n p = cc in
         let size : length (f .name) ≡ n = ap length f-name ∙ length-name p in
-        let tests = and-true (within 1 16 n) (eqb (getD p n 0) colon) e in
+        let tests = and-eq-true-iff (within 1 16 n) (eqb (getD p n 0) colon) .0 e in
         record {
           letters = f-name;
           right = rw (length-name p) (tests .0);
           name = rw size f-name;
           inside = rw size (byte-inside p n 57 (tests .1));
         }
-    go true e Bad q = absurd (let z : _≡_ {A = ℕ} 0 1 = cc in omega arith)
-    go false e x q = absurd (let z : _≡_ {A = ℕ} 0 1 = cc in omega arith)
+    go true e Bad q = absurd (true≢false cc)
+    go false e x q = absurd (true≢false cc)
 
 -- ## The answers of `field_at`
 pub part-bad : (line : List ℕ) (i : ℕ) → part.Bad ≡ partAt line i → fieldOf (partFrom line i) ≡ none
@@ -83,7 +79,7 @@ part-placed {line} {i} {colon} {value} {end} e = go (fieldOf p) refl e
     p = partFrom line i
 
     go : (o : Option Field) → fieldOf p ≡ o → part.Field colon value end ≡ placed i (length p) o → Placed line i colon value end
-    go none q e = absurd (let z : _≡_ {A = ℕ} 0 1 = cc in omega arith)
+    go none q e = absurd (true≢false cc)
     go (some f) q e =
         let named = field-named p f q in
         let colon-at : colon ≡ i + length (f .name) = cc in

@@ -1,7 +1,7 @@
 -- Laws of the fields of a line, for the readers of a line's fields.
 use Prim.Native.Nat.{ℕ, zero, suc, _<_}
 use mathlib.Core.Path.{_≡_, refl, sym, _∙_}
-use mathlib.Core.Bool.{Bool, true, false, cond, _||_}
+use mathlib.Core.Bool.{Bool, true, false, cond, _||_, true≢false}
 use mathlib.Core.List.{List, [], _∷_, map}
 use mathlib.Core.Option.{Option, none, some}
 use native.Mathlib.Omega.{arith}
@@ -27,13 +27,13 @@ absent-value name fs e = go (valueIn name fs) (sym (has-value name fs) ∙ e)
   where
     go : (o : Option ℕ) → onSome o false (λ v. true) ≡ false → o ≡ none
     go none e = refl
-    go (some v) e = absurd (let z : _≡_ {A = ℕ} 0 1 = cc in omega arith)
+    go (some v) e = absurd (true≢false cc)
 
 pub present-value : (name : List ℕ) (fs : List Field) → has name fs ≡ true → valueIn name fs ≡ some (onSome (valueIn name fs) 0 (λ v. v))
 present-value name fs e = go (valueIn name fs) (sym (has-value name fs) ∙ e)
   where
     go : (o : Option ℕ) → onSome o false (λ v. true) ≡ true → o ≡ some (onSome o 0 (λ v. v))
-    go none e = absurd (let z : _≡_ {A = ℕ} 0 1 = cc in omega arith)
+    go none e = absurd (true≢false cc)
     go (some v) e = refl
 
 -- ## What a line says, by the numbers of the known names
@@ -41,6 +41,10 @@ pub getD-map : {A B : Type 0} (f : A → B) (l : List A) (n : ℕ) (d : A) (e : 
 getD-map f [] n d e h = absurd (omega arith)
 getD-map f (x ∷ l) zero d e h = refl
 getD-map f (x ∷ l) (suc n) d e h = getD-map f l n d e (omega arith)
+
+pub read-bad : (line : List ℕ) → fieldsOf line ≡ none → readOf line ≡ noFields
+unfolding readOf
+read-bad line e = rw e
 
 pub read-good : (line : List ℕ) (fs : List Field) → fieldsOf line ≡ some fs → readOf line ≡ listed fs
 unfolding readOf
@@ -52,7 +56,7 @@ unfolding readOf
 good-fields line = go (fieldsOf line)
   where
     go : (o : Option (List Field)) → onSome o noFields listed .good ≡ true → (fs : List Field) × (o ≡ some fs)
-    go none e = absurd (let z : _≡_ {A = ℕ} 0 1 = cc in omega arith)
+    go none e = absurd (true≢false cc)
     go (some fs) e = (fs, refl)
 
 module _ (line : List ℕ) (fs : List Field) (e : fieldsOf line ≡ some fs) (k : ℕ) (h : k < 11) where

@@ -5,7 +5,7 @@
 --   fill acc fs     what is read so far, and the fields fs
 use Prim.Native.Nat.{ℕ, zero, suc, _≤_, _<_}
 use mathlib.Core.Path.{_≡_, refl, sym, _∙_}
-use mathlib.Core.Bool.{Bool, true, false, cond, not, _||_, or-false}
+use mathlib.Core.Bool.{Bool, true, false, cond, not, _||_, or-false, and-eq-true-iff}
 use mathlib.Core.List.{List, [], _∷_}
 use mathlib.Core.Option.{some}
 use native.Mathlib.Omega.{arith}
@@ -20,7 +20,6 @@ use Rattle.line.specs.Field.{Field}
 use Rattle.line.specs.Fields.{onSome, has, valueIn, noneTwice, known, listed}
 use Rattle.line.specs.Reading.{slotOf, nothingYet, filled, put}
 use Rattle.line.specs.SlotLaws.{same-known, same-slot}
-use Rattle.line.specs.FieldLaws.{and-true}
 use Rattle.line.specs.FieldsLaws.{absent-value, getD-map}
 
 abbrev pub added : Fields → Field → Fields
@@ -132,7 +131,7 @@ module _ (k : ℕ) (h : k < 11) where
   fill-value [] acc z e = refl
   fill-value (f ∷ fs) acc z e =
       rw (
-        fill-value fs (added acc f) (put-sized acc (slotOf (f .name)) (f .value) z) (and-true (not (has (f .name) fs)) (noneTwice fs) e .1),
+        fill-value fs (added acc f) (put-sized acc (slotOf (f .name)) (f .value) z) (and-eq-true-iff (not (has (f .name) fs)) (noneTwice fs) .0 e .1),
         put-value acc (slotOf (f .name)) (f .value) k (λ q. omega arith) z,
       )
       (go (same (getD known k []) (f .name)) refl)
@@ -141,7 +140,7 @@ module _ (k : ℕ) (h : k < 11) where
           onSome (valueIn (getD known k []) fs) (cond (eqb (slotOf (f .name)) k) (f .value) (getD (acc .values) k 0)) (λ v. v) ≡
           onSome (cond b (some (f .value)) (valueIn (getD known k []) fs)) (getD (acc .values) k 0) (λ v. v)
       go true q =
-          let once = not-true (has (f .name) fs) (and-true (not (has (f .name) fs)) (noneTwice fs) e .0) in
+          let once = not-true (has (f .name) fs) (and-eq-true-iff (not (has (f .name) fs)) (noneTwice fs) .0 e .0) in
           let alone = absent-value (getD known k []) fs (rw (same-eq (getD known k []) (f .name) q) once) in
           rw (alone, ← same-known k (f .name) h, q)
       go false q = rw (← same-known k (f .name) h, q)

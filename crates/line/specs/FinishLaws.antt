@@ -1,7 +1,7 @@
 -- One pass over the parts of a line reads what the line says (`finish-all`).
 use Prim.Native.Nat.{ℕ}
 use mathlib.Core.Path.{_≡_, refl, _∙_}
-use mathlib.Core.Bool.{Bool, true, false, cond, not, _&&_, _||_}
+use mathlib.Core.Bool.{Bool, true, false, cond, not, _&&_, _||_, true≢false}
 use mathlib.Core.List.{List, [], _∷_}
 use mathlib.Core.Option.{Option, none, some}
 use native.Mathlib.Omega.{arith}
@@ -28,8 +28,8 @@ named-has name (p ∷ ps) fs e = go (fieldOf p) refl (allFields ps) (named-has n
     go : (o : Option Field) → fieldOf p ≡ o → (os : Option (List Field)) → ((gs : List Field) → os ≡ some gs → namedIn name ps ≡ has name gs) →
         onSome o none (λ f. onSome os none (λ gs. some (f ∷ gs))) ≡ some fs →
         (same name (nameOf p) || namedIn name ps) ≡ has name fs
-    go none q os ih e = absurd (let z : _≡_ {A = ℕ} 0 1 = cc in omega arith)
-    go (some f) q none ih e = absurd (let z : _≡_ {A = ℕ} 0 1 = cc in omega arith)
+    go none q os ih e = absurd (true≢false cc)
+    go (some f) q none ih e = absurd (true≢false cc)
     go (some f) q (some gs) ih e =
         let n : fs ≡ f ∷ gs = cc in rw (n, ih gs refl, field-named p f q .letters)
 

@@ -1,7 +1,7 @@
 -- Laws of the line of an area.
 use Prim.Native.Nat.{ℕ, zero, suc, _-_, _≤_, _<_}
 use mathlib.Core.Path.{_≡_, refl}
-use mathlib.Core.Bool.{Bool, true, false, cond}
+use mathlib.Core.Bool.{Bool, true, false, cond, true≢false}
 use mathlib.Core.List.{List}
 use native.Mathlib.Omega.{arith}
 use borrow.Author.Tests.{ltb-true, eq-eqb, ne-eqb}
@@ -53,4 +53,4 @@ line-inside area len newline e = go (ltb (span (isNot 10) area) (length area)) r
           before = omega (arith, trimmed-le (span (isNot 10) area) area);
           inside = omega (arith, ltb-true (span (isNot 10) area) (length area) h);
         }
-    go false h e = absurd (let z : _≡_ {A = ℕ} 0 1 = cc in omega arith)
+    go false h e = absurd (true≢false cc)

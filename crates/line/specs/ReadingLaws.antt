@@ -1,7 +1,7 @@
 -- Laws of how a line is read, one for each branch of the code.
 use Prim.Native.Nat.{ℕ, _-_, _≤_}
-use mathlib.Core.Path.{_≡_}
-use mathlib.Core.Bool.{true, false}
+use mathlib.Core.Path.{_≡_, sym, _∙_}
+use mathlib.Core.Bool.{Bool, true, false}
 use mathlib.Core.List.{List, _∷_}
 use lib.ListN.{length, take, drop}
 use Rattle.text.specs.Text.{split}
@@ -32,11 +32,11 @@ module _ (acc : Fields) (line : List ℕ) (i : ℕ) where
     abbrev name : List ℕ
     name = take (colon - i) (drop i line)
 
-    pub finish-seen : seen acc (slotOf name) name (partsAfter line end) ≡ true → finish acc (split comma (drop i line)) ≡ noFields
+    pub finish-seen : {b : Bool} → b ≡ seen acc (slotOf name) name (partsAfter line end) → b ≡ true → finish acc (split comma (drop i line)) ≡ noFields
     unfolding finish
-    finish-seen e = rw (parts-placed p, p .field, e)
+    finish-seen s t = rw (parts-placed p, p .field, sym s ∙ t)
 
-    pub finish-put : seen acc (slotOf name) name (partsAfter line end) ≡ false →
+    pub finish-put : {b : Bool} → b ≡ seen acc (slotOf name) name (partsAfter line end) → b ≡ false →
         finish acc (split comma (drop i line)) ≡ finish (put acc (slotOf name) value) (partsAfter line end)
     unfolding finish
-    finish-put e = rw (parts-placed p, p .field, e)
+    finish-put s t = rw (parts-placed p, p .field, sym s ∙ t)

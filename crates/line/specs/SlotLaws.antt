@@ -1,7 +1,7 @@
 -- Laws of the known names and their numbers.
 use Prim.Native.Nat.{ℕ, zero, suc, _+_, _<_}
 use mathlib.Core.Path.{_≡_, refl, sym, _∙_, ap}
-use mathlib.Core.Bool.{Bool, true, false, cond}
+use mathlib.Core.Bool.{Bool, true, false, cond, true≢false}
 use mathlib.Core.List.{List, [], _∷_}
 use native.Mathlib.Omega.{arith}
 use borrow.Author.Tests.{eq-eqb, ne-eqb, eqb-true, eqb-false}
@@ -42,7 +42,7 @@ numbered-at i j (n ∷ names) e h = go (eqb (slotOf n) i) refl (λ k. numbered-a
         cond t (numbered (suc i) names) false ≡ true → (j : ℕ) → j < suc (length names) → slotOf (getD (n ∷ names) j []) ≡ i + j
     go true q ih e zero h = omega (arith, eqb-true (slotOf n) i q)
     go true q ih e (suc j) h = omega (arith, ih j e (omega arith))
-    go false q ih e j h = absurd (let z : _≡_ {A = ℕ} 0 1 = cc in omega arith)
+    go false q ih e j h = absurd (true≢false cc)
 
 known-numbered : numbered 0 known ≡ true
 unfolding numbered slotOf numberOf same

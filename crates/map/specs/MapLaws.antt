@@ -5,7 +5,7 @@
 --   lookup-X, index-X, count-X, named-X, copy-X    the calls
 use Prim.Native.Nat.{ℕ, zero, suc, _+_, _≤_, _<_}
 use mathlib.Core.Path.{_≡_, refl, sym, _∙_, ap, subst}
-use mathlib.Core.Bool.{true, false, and-eq-true-iff}
+use mathlib.Core.Bool.{true, false, and-eq-true-iff, true≢false}
 use mathlib.Core.List.{List, _++_}
 use mathlib.Core.Option.{Option, none, some}
 use native.Mathlib.Numerals.{add-one}
@@ -120,7 +120,10 @@ module _ (name : List ℕ) where
   -- a good name has room in its key
   named-room : wellNamed name ≡ true → ltb 1000 (length name) ≡ false
   unfolding wellNamed
-  named-room w = le-ltb 1000 (length name) (leb-true (length name) 1000 (and-eq-true-iff (leb 1 (length name)) (leb (length name) 1000) .0 (and-eq-true-iff (within 1 1000 (length name)) (every isPrintable name) .0 w .0) .1))
+  named-room w =
+      let sized = and-eq-true-iff (within 1 1000 (length name)) (every isPrintable name) .0 w .0 in
+      let few = and-eq-true-iff (leb 1 (length name)) (leb (length name) 1000) .0 sized .1 in
+      le-ltb 1000 (length name) (leb-true (length name) 1000 few)
 
   module _ (image : List ℕ) where
     pub named-bad : wellNamed name ≡ false → namedOf image name ≡ refuse badArgument
@@ -205,8 +208,8 @@ placeOf (value.Refused r) = record { at = 0; len = 0 }
 
 looked : (o : Outcome (Option Entry)) {at len : ℕ} → valueOf o ≡ value.At at len → Looked o at len
 unfolding valueOf
-looked (refuse r) v = absurd (let z : _≡_ {A = ℕ} 0 1 = cc in omega arith)
-looked (ok none) v = absurd (let z : _≡_ {A = ℕ} 0 1 = cc in omega arith)
+looked (refuse r) v = absurd (true≢false cc)
+looked (ok none) v = absurd (true≢false cc)
 looked (ok (some e)) v = record { entry = e; found = refl; place = ap placeOf v }
 
 module _ (image : List ℕ) (map kind : ℕ) (key : List ℕ) (room : ℕ) where

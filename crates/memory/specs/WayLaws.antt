@@ -1,7 +1,7 @@
 -- What the halving and the moving do, one law for each way that the code takes.
 use Prim.Native.Nat.{ℕ, zero, suc, _+_, _*_, _-_, _/_, _<_, _≤_}
 use mathlib.Core.Path.{_≡_, refl, _∙_}
-use mathlib.Core.Bool.{Bool, true, false, cond, not}
+use mathlib.Core.Bool.{Bool, true, false, cond, not, true≢false}
 use mathlib.Core.List.{List}
 use native.Mathlib.Numerals.{sub-one}
 use native.Mathlib.Omega.{arith}
@@ -27,9 +27,9 @@ module _ (ws : List ℕ) where
   room-last e = go (eqb (places ws) 0) (eqb (getD ws (2 * places ws - 2) 0) 0) refl e
     where
       go : (s t : Bool) → eqb (getD ws (2 * places ws - 2) 0) 0 ≡ t → cond s true (not t) ≡ false → getD ws (2 * places ws - 2) 0 ≡ 0
-      go true t q e = absurd (let z : _≡_ {A = ℕ} 0 1 = cc in omega arith)
+      go true t q e = absurd (true≢false cc)
       go false true q e = eqb-true (getD ws (2 * places ws - 2) 0) 0 q
-      go false false q e = absurd (let z : _≡_ {A = ℕ} 0 1 = cc in omega arith)
+      go false false q e = absurd (true≢false cc)
 
 -- ## Halving
 pub below-free : (w c : ℕ) → w ≡ 0 → belowIn w c ≡ false

@@ -1,9 +1,8 @@
 -- Laws of distinct names: none is one of those before it. One for each branch of the loops.
 use Prim.Native.Nat.{ℕ, _+_, _-_, _≤_}
 use mathlib.Core.Path.{_≡_, refl}
-use mathlib.Core.Bool.{Bool, true, false, not, _&&_, _||_, and-false}
+use mathlib.Core.Bool.{Bool, true, false, not, _&&_, _||_, and-false, true≢false}
 use mathlib.Core.List.{List, [], _∷_}
-use native.Mathlib.Omega.{arith}
 use lib.ListN.{length, take, drop}
 use Rattle.text.specs.Text.{span, within, isNot, isLetter, same}
 use Rattle.names.specs.Names.{comma, partFrom, partsAfter, nameOf, namedIn, distinct}
@@ -69,7 +68,7 @@ pub record First (K : List ℕ → Bool) (p : List ℕ) (ps : List (List ℕ)) :
   pub rest : distinct ps ≡ true
 
 never : {A : Type 0} → false ≡ true → A
-never e = absurd (let z : _≡_ {A = ℕ} 0 1 = cc in omega arith)
+never e = absurd (true≢false cc)
 
 pub apart-both : (K : List ℕ → Bool) (p : List ℕ) (ps : List (List ℕ)) → apart K (p ∷ ps) ≡ true → First K p ps
 unfolding apart clear distinct

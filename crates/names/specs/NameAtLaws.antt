@@ -1,7 +1,7 @@
 -- Laws of the letters at a place, one for each branch of `named_at`.
 use Prim.Native.Nat.{ℕ, zero, suc, _+_, _-_, _≤_, _<_}
 use mathlib.Core.Path.{_≡_, refl, sym, _∙_, ap}
-use mathlib.Core.Bool.{Bool, true, false, cond}
+use mathlib.Core.Bool.{Bool, true, false, cond, true≢false}
 use mathlib.Core.List.{List, [], _∷_}
 use native.Mathlib.Omega.{arith}
 use borrow.Author.Tests.{eqb-true, eqb-false}
@@ -27,7 +27,7 @@ every-take (suc n) (x ∷ s) h e = go (isLetter x) e (every-take n s (omega arit
     go : (t : Bool) → cond t (every isLetter (take n s)) false ≡ true → (every isLetter (take n s) ≡ true → n ≤ span isLetter s) →
         suc n ≤ cond t (suc (span isLetter s)) 0
     go true e ih = omega (arith, ih e)
-    go false e ih = absurd (let z : _≡_ {A = ℕ} 0 1 = cc in omega arith)
+    go false e ih = absurd (true≢false cc)
 
 name-size : (line : List ℕ) (from : ℕ) → length (nameAt line from) ≡ span isLetter (drop from line)
 unfolding nameAt

@@ -4,7 +4,7 @@
 --   Shaped s    what `shaped s` says
 use Prim.Native.Nat.{ℕ, _+_, _-_, _<_, _≤_}
 use mathlib.Core.Path.{_≡_, refl, _∙_}
-use mathlib.Core.Bool.{Bool, true, false, cond, not, _&&_, _||_, and-false}
+use mathlib.Core.Bool.{Bool, true, false, cond, not, _&&_, _||_, and-false, true≢false}
 use mathlib.Core.List.{List}
 use native.Mathlib.Omega.{arith}
 use borrow.Author.Tests.{le-leb, lt-leb, lt-ltb, le-ltb, ltb-true, ltb-false, eq-eqb, ne-eqb, eqb-false}
@@ -112,7 +112,7 @@ module _ (s : List ℕ) where
       record {
         some = range .0;
         few = range .1;
-        alone = λ l f. let e = shaped-zero l f in let z : _≡_ {A = ℕ} 0 1 = cc in omega arith;
+        alone = λ l f. let e = shaped-zero l f in true≢false cc;
       }
     where
       left : (p q : Bool) → p && q ≡ true → p ≡ true

@@ -1,7 +1,7 @@
 -- Laws of the digits of a number.
 use Prim.Native.Nat.{ℕ, zero, suc, _+_, _*_, _-_, _/_, _%_, _^_, _<_, _≤_}
 use mathlib.Core.Path.{_≡_, refl, sym, ap, _∙_}
-use mathlib.Core.Bool.{Bool, true, false, cond, _&&_}
+use mathlib.Core.Bool.{Bool, true, false, cond, _&&_, true≢false}
 use mathlib.Core.List.{List, [], _∷_, _++_, append-nil}
 use native.Mathlib.Nat.{zero-add, add-zero, pow-suc}
 use native.Mathlib.Numerals.{sub-one}
@@ -171,5 +171,5 @@ hexText-hexOf s n e = go (every isDigit s) refl (shaped s) refl e
     go : (t : Bool) → every isDigit s ≡ t → (u : Bool) → shaped s ≡ u →
         cond (t && u) (number.Value (hexValue s)) number.Bad ≡ number.Value n → s ≡ hexText n
     go true d true f e = hexText-hexValue s d (shaped-known s f) ∙ ap hexText (cc)
-    go true d false f e = absurd (let z : _≡_ {A = ℕ} 0 1 = cc in omega arith)
-    go false d u f e = absurd (let z : _≡_ {A = ℕ} 0 1 = cc in omega arith)
+    go true d false f e = absurd (true≢false cc)
+    go false d u f e = absurd (true≢false cc)

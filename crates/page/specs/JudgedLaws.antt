@@ -5,7 +5,7 @@
 use Prim.Native.Nat.{ℕ, _+_, _-_, _^_, _<_, _≤_}
 use mathlib.Core.Path.{_≡_, refl}
 use mathlib.Core.List.{List}
-use mathlib.Core.Bool.{Bool, true, false, cond, _&&_, and-false}
+use mathlib.Core.Bool.{Bool, true, false, cond, _&&_, and-false, and-eq-true-iff}
 use native.Mathlib.Omega.{arith}
 use borrow.Author.Tests.{leb-true, lt-leb, ltb-true}
 use lib.Dec.{eqb, ltb, leb}
@@ -24,14 +24,10 @@ use Rattle.page.specs.declared.Head.the-variants.{Body}
 use Rattle.page.specs.declared.Head.the-variants as head
 use Rattle.page.specs.Judged.{startOf, footerAt, begins, lengthFits, fieldsAt, headAt}
 
-and-right : (a b : Bool) → (a && b) ≡ true → b ≡ true
-and-right true b e = e
-and-right false b e = absurd (let z : _≡_ {A = ℕ} 0 1 = cc in omega arith)
-
 -- "nor less than 9 bytes before the footer"
 pub begins-room : (c : Place) (offset : ℕ) → begins c offset ≡ true → startOf c + offset + 9 ≤ footerAt c
 unfolding begins
-begins-room c offset e = leb-true (startOf c + offset + 9) (footerAt c) (and-right (leb (c .first) offset) _ e)
+begins-room c offset e = leb-true (startOf c + offset + 9) (footerAt c) (and-eq-true-iff (leb (c .first) offset) _ .0 e .1)
 
 pub begins-no-room : (c : Place) (offset : ℕ) → footerAt c < startOf c + offset + 9 → begins c offset ≡ false
 unfolding begins

@@ -4,7 +4,7 @@
 --   endBelow hi r    the last of keys that rise is below the bound; not so of keys that don't rise
 use Prim.Native.Nat.{ℕ, _-_, _≤_, _<_}
 use mathlib.Core.Path.{_≡_, refl, sym, _∙_, ap}
-use mathlib.Core.Bool.{Bool, true, false, cond, _&&_}
+use mathlib.Core.Bool.{Bool, true, false, cond, _&&_, true≢false}
 use mathlib.Core.List.{List, [], _∷_, map}
 use mathlib.Core.Option.{none, some}
 use native.Mathlib.Omega.{arith}
@@ -121,11 +121,11 @@ module _ (image : List ℕ) (kind : Kind) where
   -- ## The tests of a page's keys, by the first of them
   no-first : (ps : List Spot) → firstOf ps ≡ bound.Open → ps ≡ []
   no-first [] e = refl
-  no-first (p ∷ ps) e = absurd (let z : _≡_ {A = ℕ} 0 1 = cc in omega arith)
+  no-first (p ∷ ps) e = absurd (true≢false cc)
 
   first-is : (ps : List Spot) {at len : ℕ} → firstOf ps ≡ bound.Key at len
       → (qs : List Spot) × (ps ≡ (record { at = at; len = len } ∷ qs))
-  first-is [] e = absurd (let z : _≡_ {A = ℕ} 0 1 = cc in omega arith)
+  first-is [] e = absurd (true≢false cc)
   first-is (p ∷ ps) {at} {len} e =
       let f : p .at ≡ at = cc in
       let g : p .len ≡ len = cc in

@@ -4,18 +4,16 @@ use key::Kind;
 use key::Sized;
 use order::Order;
 ghost use mathlib.Core.Path.{_≡_};
-ghost use mathlib.Core.Bool.{_&&_};
-ghost use mathlib.Core.Option.{none};
 ghost use lib.ListN.{take};
 ghost use Rattle.order.specs.Order.{isLess, below};
 ghost use Rattle.key.specs.Key.{compareKeys};
 ghost use Rattle.tree.specs.Examination.{aboveBound, fromBound, belowBound};
-ghost use Rattle.tree.specs.Rising.{rises, lastBelow, keysTest, separatorsTest};
+ghost use Rattle.tree.specs.Rising.{keysTest, separatorsTest};
 ghost use Rattle.item.specs.Step.{upTo};
 ghost use Rattle.item.specs.Item.{items};
 ghost use Rattle.page.specs.Judged.{keyForm};
 ghost use Rattle.content.specs.Content.{keyIn, keysIn};
-ghost use Rattle.rising.specs.Rising.{boundKey, riseOf, firstOf};
+ghost use Rattle.rising.specs.Rising.{boundKey, risenBelow, riseOf, firstOf};
 
 // The nearest separator above on a side, by its place in the image; or none.
 pub enum Bound {
@@ -183,7 +181,7 @@ fn rise_from(image: &[u8], kind: Kind, n: u32, keys: usize, end: usize) -> Rise
 
 // Whether the keys rise strictly and the last of them is below the bound.
 fn rise_below(image: &[u8], kind: Kind, n: u32, keys: usize, end: usize, hi: Bound) -> bool
-    ensures { λ r. ⌜ r ≡ (rises compareKeys none (keysIn (take end (now (image .entry))) kind n keys) && lastBelow compareKeys (boundKey (now (image .entry)) kind hi) (keysIn (take end (now (image .entry))) kind n keys)) ⌝ }
+    ensures { λ r. ⌜ r ≡ risenBelow (boundKey (now (image .entry)) kind hi) (keysIn (take end (now (image .entry))) kind n keys) ⌝ }
 {
     let r = rise_from(image, kind, n, keys, end);
     match r {

@@ -1,7 +1,7 @@
 -- Laws of runs of bytes.
 use Prim.Native.Nat.{ℕ, zero, suc, _+_, _<_, _≤_}
 use mathlib.Core.Path.{_≡_, refl, sym, _∙_, ap}
-use mathlib.Core.Bool.{Bool, true, false, cond, not, _&&_}
+use mathlib.Core.Bool.{Bool, true, false, cond, not, _&&_, true≢false}
 use mathlib.Core.List.{List, [], _∷_}
 use native.Mathlib.Numerals.{add-one}
 use native.Mathlib.Omega.{arith}
@@ -54,7 +54,7 @@ module _ (P : ℕ → Bool) where
     where
       go : (t : Bool) → cond t (every P s) false ≡ true → (t ≡ true) × (every P s ≡ true)
       go true h = (refl, h)
-      go false h = absurd (let z : _≡_ {A = ℕ} 0 1 = cc in omega arith)
+      go false h = absurd (true≢false cc)
 
   -- all bytes have the property exactly where the run is the whole text
   pub every-span : (s : List ℕ) → every P s ≡ eqb (span P s) (length s)
@@ -96,7 +96,7 @@ module _ (P Q : ℕ → Bool) (narrower : (x : ℕ) → P x ≡ true → Q x ≡
     where
       go : (t : Bool) → P x ≡ t → (u : Bool) → Q x ≡ u → span P s ≤ span Q s → cond t (suc (span P s)) 0 ≤ cond u (suc (span Q s)) 0
       go true e true f h = omega arith
-      go true e false f h = absurd (let g = narrower x e in let z : _≡_ {A = ℕ} 0 1 = cc in omega arith)
+      go true e false f h = absurd (let g = narrower x e in true≢false cc)
       go false e u f h = omega arith
 
   -- the wider run has the narrower property throughout exactly where the two runs are equal
@@ -108,7 +108,7 @@ module _ (P Q : ℕ → Bool) (narrower : (x : ℕ) → P x ≡ true → Q x ≡
       go : (t : Bool) → P x ≡ t → (u : Bool) → Q x ≡ u → every P (take (span Q s) s) ≡ eqb (span P s) (span Q s) →
           every P (take (cond u (suc (span Q s)) 0) (x ∷ s)) ≡ eqb (cond t (suc (span P s)) 0) (cond u (suc (span Q s)) 0)
       go true e true f ih = rw e (ih ∙ sym (eqb·suc-suc (span P s) (span Q s)))
-      go true e false f ih = absurd (let g = narrower x e in let z : _≡_ {A = ℕ} 0 1 = cc in omega arith)
+      go true e false f ih = absurd (let g = narrower x e in true≢false cc)
       go false e true f ih = rw e (sym (eqb·zero-suc (span Q s)))
       go false e false f ih = refl
 
@@ -145,8 +145,8 @@ within-true low high x e = go (leb low x) refl (leb x high) refl e
   where
     go : (p : Bool) → leb low x ≡ p → (q : Bool) → leb x high ≡ q → p && q ≡ true → (low ≤ x) × (x ≤ high)
     go true e true f h = (leb-true low x e, leb-true x high f)
-    go true e false f h = absurd (let z : _≡_ {A = ℕ} 0 1 = cc in omega arith)
-    go false e q f h = absurd (let z : _≡_ {A = ℕ} 0 1 = cc in omega arith)
+    go true e false f h = absurd (true≢false cc)
+    go false e q f h = absurd (true≢false cc)
 
 pub true-within : (low high x : ℕ) → low ≤ x → x ≤ high → within low high x ≡ true
 true-within low high x l h = rw (le-leb low x l, le-leb x high h)
@@ -247,7 +247,7 @@ module _ (P Q : ℕ → Bool) (narrower : (x : ℕ) → P x ≡ true → Q x ≡
       go : (t : Bool) → P x ≡ t → (u : Bool) → Q x ≡ u → span P (take (span Q s) s) ≡ span P s →
           span P (take (cond u (suc (span Q s)) 0) (x ∷ s)) ≡ cond t (suc (span P s)) 0
       go true e true f ih = rw e (ap suc ih)
-      go true e false f ih = absurd (let g = narrower x e in let z : _≡_ {A = ℕ} 0 1 = cc in omega arith)
+      go true e false f ih = absurd (let g = narrower x e in true≢false cc)
       go false e true f ih = rw e
       go false e false f ih = refl
 
@@ -260,9 +260,9 @@ module _ (P Q : ℕ → Bool) (narrower : (x : ℕ) → P x ≡ true → Q x ≡
           let less = ltb-true (span P s) (span Q s) e in
           let out = h (omega (arith, span-le Q s)) in
           let in-run = span-byte Q s (span P s) less in
-          absurd (let z : _≡_ {A = ℕ} 0 1 = cc in omega arith)
+          absurd (true≢false cc)
       go false e = omega (arith, ltb-false (span P s) (span Q s) e, span-narrower P Q narrower s)
 
   -- any other byte follows it: the wider run goes on
   pub span-goes-on : (s : List ℕ) → span P s < length s → Q (getD s (span P s) 0) ≡ true → span P s ≡ span Q s → ⊥
-  span-goes-on s h q e = let a = span-next Q s (omega arith) in let b = rw e at q in let z : _≡_ {A = ℕ} 0 1 = cc in omega arith
+  span-goes-on s h q e = let a = span-next Q s (omega arith) in let b = rw e at q in true≢false cc

@@ -1,7 +1,7 @@
 -- Whether all bytes of a text have a property, by the parts of the text: as a loop tests eight at a time.
 use Prim.Native.Nat.{ℕ, _+_, _-_, _≤_, _<_}
 use mathlib.Core.Path.{_≡_, refl, sym, _∙_, ap}
-use mathlib.Core.Bool.{Bool, true, false, cond, _&&_}
+use mathlib.Core.Bool.{Bool, true, false, cond, _&&_, and-eq-true-iff}
 use mathlib.Core.List.{List, [], _∷_, _++_}
 use native.Mathlib.Omega.{arith}
 use lib.ListN.{length, getD, take, drop, take-append-drop, length-drop}
@@ -11,10 +11,6 @@ use Rattle.text.specs.Text.{every}
 pub and-false : (a : Bool) → a && false ≡ false
 and-false true = refl
 and-false false = refl
-
-and-first : (a b : Bool) → a && b ≡ true → a ≡ true
-and-first true b e = refl
-and-first false b e = e
 
 module _ (P : ℕ → Bool) where
   every-append : (a b : List ℕ) → every P (a ++ b) ≡ every P a && every P b
@@ -52,7 +48,7 @@ module _ (P : ℕ → Bool) where
   pub every-last : (k : ℕ) (s : List ℕ) (i : ℕ) → every P (take i s) ≡ true → k ≤ i → every P (drop k s) ≡ every P s
   every-last k s i e h =
       let n : k + (i - k) ≡ i = omega arith in
-      let first = and-first (every P (take k s)) (every P (take (i - k) (drop k s))) (sym (every-take k (i - k) s) ∙ rw n e) in
+      let first = and-eq-true-iff (every P (take k s)) (every P (take (i - k) (drop k s))) .0 (sym (every-take k (i - k) s) ∙ rw n e) .0 in
       sym (every-split k s ∙ rw first)
 
   -- two parts that meet or overlap

@@ -3,10 +3,9 @@
 --   InLeaf P o     P of each entry of the page, where it is a leaf
 use Prim.Native.Nat.{ℕ, zero, suc, _-_}
 use mathlib.Core.Path.{_≡_, subst}
-use mathlib.Core.Bool.{Bool, true, false}
+use mathlib.Core.Bool.{Bool, true, false, true≢false}
 use mathlib.Core.Option.{Option, none, some}
 use mathlib.Core.List.{List, [], _∷_}
-use native.Mathlib.Omega.{arith}
 use lib.Dec.{ltb}
 use Rattle.refusal.specs.Refusal.{Outcome, ok, refuse, tooDeep, badIndex}
 use Rattle.order.specs.declared.Order.{Order}
@@ -25,7 +24,7 @@ module _ {K W : Type 0} (P : K × W → Type 0) where
 
   -- ## One page
   find-holds : (cmp : K → K → Order) (k : K) (es : List (K × W)) {w : W} → All P es → findIn cmp k es ≡ some w → (x : K) × P (x, w)
-  find-holds cmp k [] h e = absurd (let z : _≡_ {A = ℕ} 0 1 = cc in omega arith)
+  find-holds cmp k [] h e = absurd (true≢false cc)
   find-holds cmp k (a ∷ es) {w} h e = go (λ q. find-holds cmp k es (h .1) q) (cmp (a .0) k) e
     where
       go : (findIn cmp k es ≡ some w → (x : K) × P (x, w)) → (o : Order)
@@ -34,7 +33,7 @@ module _ {K W : Type 0} (P : K × W → Type 0) where
       go ih Equal q =
           let f : a .1 ≡ w = cc in
           (a .0, subst (λ (y : W). P (a .0, y)) f (h .0))
-      go ih Greater q = absurd (let z : _≡_ {A = ℕ} 0 1 = cc in omega arith)
+      go ih Greater q = absurd (true≢false cc)
 
   nth-holds : (i : ℕ) (es : List (K × W)) {x : K × W} → All P es → nth i es ≡ ok x → P x
   nth-holds i [] {x} h e = refuse-ok badIndex x e
@@ -101,7 +100,7 @@ module _ {K W : Type 0} (P : K × W → Type 0) where
     -- ## Of a map, by its root
     pub map-lookup-holds : (cmp : K → K → Order) (k : K) (p : ℕ) {w : W} → mapLookup cmp read k p ≡ ok (some w) → (x : K) × P (x, w)
     unfolding mapLookup
-    map-lookup-holds cmp k zero e = absurd (let z : _≡_ {A = ℕ} 0 1 = cc in omega arith)
+    map-lookup-holds cmp k zero e = absurd (true≢false cc)
     map-lookup-holds cmp k (suc p) e = lookup-holds cmp 16 k (suc p) e
 
     pub map-index-holds : (i p : ℕ) {x : K × W} → mapIndex read i p ≡ ok x → P x

@@ -56,7 +56,7 @@ returns-2 c =
     let p = part-placed (sym (k .p .given .1) ∙ k .before .before .field-at .ensures) in
     let s = rw (c .before .before .before .slot-of .ensures) at (c .before .before .repeats .ensures) in
     let line = now (c .before .before .before .before .before .before .before .before .before .before .before .args .line) in
-    c .bad2 .ensures ∙ sym (finish-seen (l .fields) line (l .i) p (sym s ∙ c .before .if1 .taken)) ∙ l .inv .rest
+    c .bad2 .ensures ∙ sym (finish-seen (l .fields) line (l .i) p s (c .before .if1 .taken)) ∙ l .inv .rest
 
 -- what is read so far, with this field's value
 with-value : (c : tie.Joined2 Inv-loop μ-loop) →
@@ -75,7 +75,7 @@ returns-3 c =
     let p = part-placed (sym (k .p .given .1) ∙ k .before .before .field-at .ensures) in
     let s = rw (c .before .before .before .before .slot-of .ensures) at (c .before .before .before .repeats .ensures) in
     let f = rw (c .before .before .before .before .slot-of .ensures) at (with-value (c .before)) in
-    f ∙ sym (finish-end _ line _ (omega arith)) ∙ sym (finish-put (l .fields) line (l .i) p (sym s ∙ c .before .before .if1 .left)) ∙ l .inv .rest
+    f ∙ sym (finish-end _ line _ (omega arith)) ∙ sym (finish-put (l .fields) line (l .i) p s (c .before .before .if1 .left)) ∙ l .inv .rest
 
 add-i : tie.Need-add-i Inv-loop μ-loop
 add-i c =
@@ -96,7 +96,7 @@ loop-again c =
     let p = part-placed (sym (k .p .given .1) ∙ k .before .before .field-at .ensures) in
     let s = rw (c .before .before .before .before .slot-of .ensures) at (c .before .before .before .repeats .ensures) in
     let f = rw (c .before .before .before .before .slot-of .ensures) at (with-value (c .before)) in
-    read-on (l .inv) p (sym s ∙ c .before .before .if1 .left) (omega (arith, p .inside, c .if3 .left)) f refl
+    read-on (l .inv) p s (c .before .before .if1 .left) (omega (arith, p .inside, c .if3 .left)) f refl
 
 pub read-each-spec : {M : Type 1} → statement M
 read-each-spec =
