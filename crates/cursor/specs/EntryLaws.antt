@@ -1,9 +1,9 @@
 -- Laws of an entry by its number, as the code reads it. s is the image up to the page's end.
 use Prim.Native.Nat.{ℕ}
 use mathlib.Core.Path.{_≡_, refl}
+use mathlib.Core.Bool.{true≢false}
 use mathlib.Core.List.{List}
 use mathlib.Core.Option.{Option, none, some}
-use native.Mathlib.Omega.{arith}
 use lib.ListN.{getElem?, take}
 use Rattle.key.specs.declared.Kind.{Kind}
 use Rattle.key.specs.Key.{Key}
@@ -15,12 +15,12 @@ use Rattle.cursor.specs.declared.follow.After.the-variants as after
 use Rattle.cursor.specs.Steps.{entryAfter, firstOf}
 
 entry-after : (o : Option (Key × Entry)) {k z at len : ℕ} → nthOf o ≡ nth.Entry k z at len → after.Entry k z at len ≡ entryAfter o
-entry-after none e = absurd (let z : _≡_ {A = ℕ} 0 1 = cc in omega arith)
+entry-after none e = absurd (true≢false cc)
 entry-after (some x) e = cc
 
 over-after : (o : Option (Key × Entry)) → nthOf o ≡ nth.Out → after.Over ≡ entryAfter o
 over-after none e = refl
-over-after (some x) e = absurd (let z : _≡_ {A = ℕ} 0 1 = cc in omega arith)
+over-after (some x) e = absurd (true≢false cc)
 
 module _ (image : List ℕ) (kind : Kind) (n keys values e i : ℕ) (s : List ℕ) (c : s ≡ take e image) where
   pub entry-there : {k z at len : ℕ} → nthOf (getElem? (entriesIn s kind n keys values) i) ≡ nth.Entry k z at len

@@ -1,7 +1,7 @@
 -- Laws of the walk's state, one for each way that the code takes; and the states that a step leaves.
 use Prim.Native.Nat.{ℕ, suc, _+_, _-_, _≤_, _<_}
 use mathlib.Core.Path.{_≡_, refl, _∙_, ap}
-use mathlib.Core.Bool.{Bool, true, false, _&&_}
+use mathlib.Core.Bool.{Bool, true, false, _&&_, true≢false}
 use mathlib.Core.List.{List, [], _∷_, _++_, append-assoc}
 use native.Mathlib.Numerals.{add-one}
 use native.Mathlib.Omega.{arith}
@@ -72,4 +72,4 @@ formed-most w h = leb-true (w .depth) 16 (go (eqb (w .last) 0) (leb (w .depth) 1
     go : (a b c : Bool) → a && (b && c) ≡ true → b ≡ true
     go true true c e = refl
     go true false c e = e
-    go false b c e = absurd (let z : _≡_ {A = ℕ} 0 1 = cc in omega arith)
+    go false b c e = absurd (true≢false cc)

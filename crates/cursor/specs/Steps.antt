@@ -3,6 +3,7 @@
 --   afterOf .. i last j     what follows number i at a page that is judged; `last` says whether it is the last number
 --   firstOf .. j            the first child or entry of a page that is judged
 --   overOf found n p        what is next where a leaf has no entry more
+--   emptyStep w             the step in an empty map
 --   placed from l n depth   the numbers before place l, then n, then zeros
 --   leftStep w l n m        the step to the leftmost entry m under the page that place l leads to with number n
 use Prim.Native.Nat.{ℕ, _+_, _-_}
@@ -63,6 +64,12 @@ unfoldable pub overOf : ℕ → ℕ → Position → Down
 overOf found number position = cond (eqb found 0) down.Over (down.Left (found - 1) number position)
 
 -- ## The state
+-- "a number or depth that doesn't fit the map or the page it is used at, refuses with 12": an empty map is done with no number
+unfoldable pub emptyStep : Walk → Stepped
+emptyStep w =
+    cond (eqb (w .depth) 0) (record { walk = closed w doneNumber; got = yields.Done })
+    (record { walk = closed w (unsound .number); got = yields.Refused unsound })
+
 -- where there is no place l the places are as they are
 unfoldable pub placed : List ℕ → ℕ → ℕ → ℕ → Walk
 placed from l n depth =

@@ -12,7 +12,7 @@ ghost use mathlib.Core.Path.{_≡_};
 ghost use mathlib.Core.Bool.{true};
 ghost use lib.ListN.{drop, length};
 ghost use Rattle.cursor.specs.Walk.{zeros, formed, closed, fresh, doneNumber};
-ghost use Rattle.cursor.specs.Steps.{placed, leftStep};
+ghost use Rattle.cursor.specs.Steps.{emptyStep, placed, leftStep};
 
 // Child numbers from the root on and, last, the number of the entry last yielded; how many they are;
 // and the last answer's number: 0 for going on, `DONE`, or a refusal's.
@@ -83,6 +83,16 @@ impl Walk {
             walk: self.closed(r.number as u32),
             got: Yield::Refused(r),
         }
+    }
+
+    // A step in an empty map, which no number fits.
+    pub fn in_empty(self) -> Stepped
+        ensures { λ r. ⌜ r ≡ emptyStep self ⌝ }
+    {
+        if self.depth == 0 {
+            return self.done();
+        }
+        self.refused(Refusal::new(Refusal::UNSOUND))
     }
 }
 

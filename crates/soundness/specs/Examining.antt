@@ -2,6 +2,7 @@
 --
 --   examinedOf          what the code hands back
 --   leafOf, childOf     a leaf; the child that the cursors stand at
+--   partOf .. j         what a page that is judged says by itself: all, or that its children are to be examined
 use Prim.Native.Nat.{ℕ, zero, suc, _+_}
 use mathlib.Core.Bool.{Bool, true, cond, _&&_}
 use mathlib.Core.List.{List}
@@ -16,8 +17,10 @@ use Rattle.numeral.specs.declared.Numeral.{Numeral}
 use Rattle.numeral.specs.declared.Numeral.the-variants as numeral
 use Rattle.numeral.specs.Var.{varAt}
 use Rattle.tree.specs.Examination.{Report}
-use Rattle.tree.specs.Rising.{keysTest}
+use Rattle.tree.specs.Rising.{keysTest, separatorsTest}
 use Rattle.item.specs.Item.{itemAt, countLimit}
+use Rattle.page.specs.declared.Judged.{Judged}
+use Rattle.page.specs.declared.Judged.the-variants as judged
 use Rattle.page.specs.Judged.{keyForm}
 use Rattle.position.specs.Position.{ofBits}
 use Rattle.content.specs.Content.{keysIn, positionsIn}
@@ -28,6 +31,8 @@ use Rattle.soundness.specs.declared.Examined.{Examined}
 use Rattle.soundness.specs.declared.Examined.the-variants as examined
 use Rattle.soundness.specs.declared.Report.{Report as Figures}
 use Rattle.soundness.specs.declared.Inner.{Inner}
+use Rattle.soundness.specs.declared.Part.{Part}
+use Rattle.soundness.specs.declared.Part.the-variants as part
 use Rattle.soundness.specs.declared.Child.{Child}
 use Rattle.soundness.specs.declared.Recorded.{Recorded}
 use Rattle.soundness.specs.declared.Separator.{Separator}
@@ -52,6 +57,17 @@ leafOf image kind n keys e lo hi top =
     let ks = keysIn (take e image) kind n keys in
     cond (fullBy top n && keysTest compareKeys (boundKey image kind lo) (boundKey image kind hi) ks)
     (examined.Passed (record { entries = n; pages = 1; depth = 1 })) (examined.Refused unsound)
+
+-- ## A page
+-- "a page's own rules before its keys, its separators before its children"
+unfoldable pub partOf : List ℕ → Kind → Bound → Bound → Bool → Judged → Part
+partOf image kind lo hi top (judged.Refused r) = part.Done (examined.Refused r)
+partOf image kind lo hi top (judged.Leaf n keys values e) = part.Done (leafOf image kind n keys e lo hi top)
+partOf image kind lo hi top (judged.Inner n positions counts keys e total) =
+    let ks = keysIn (take e image) kind n keys in
+    cond (separatorsTest compareKeys (boundKey image kind lo) (boundKey image kind hi) ks)
+    (part.Children (record { n = n; positions = positions; counts = counts; keys = keys; end = e }))
+    (part.Done (examined.Refused unsound))
 
 -- ## The children of an inner page
 -- the recorded count at a place, and the place after it

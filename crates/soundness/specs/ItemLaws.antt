@@ -3,10 +3,9 @@
 --   NextKey          the separator at a cursor, as a bound
 use Prim.Native.Nat.{ℕ, suc, _+_, _<_}
 use mathlib.Core.Path.{_≡_, refl, _∙_, ap}
-use mathlib.Core.Bool.{Bool, true, false, cond}
+use mathlib.Core.Bool.{Bool, true, false, cond, true≢false}
 use mathlib.Core.List.{List, [], _∷_, map}
 use mathlib.Core.Option.{some}
-use native.Mathlib.Omega.{arith}
 use lib.Dec.{ltb}
 use lib.ListN.{length, getD, drop}
 use lib.Seq.{drop-cons}
@@ -34,14 +33,14 @@ module _ (s : List ℕ) (n i j : ℕ) where
           → onStep (cond t (got v (next, sum + v)) bad) [] (λ a d. a ∷ upTo (countAt s) n d) ≡ getD ns j 0 ∷ drop (suc j) ns
           → (getD ns j 0 ≡ v) × (upTo (countAt s) n (next, sum + v) ≡ drop (suc j) ns)
       by v next true q = (cc, cc)
-      by v next false q = absurd (let z : _≡_ {A = ℕ} 0 1 = cc in omega arith)
+      by v next false q = absurd (true≢false cc)
 
       go : (r : Numeral)
           → onStep (onNumeral r bad (λ v next. cond (ltb (sum + v) countLimit) (got v (next, sum + v)) bad)) [] (λ a d. a ∷ upTo (countAt s) n d)
           ≡ getD ns j 0 ∷ drop (suc j) ns
           → (getD ns j 0 ≡ recordedBy r .value) × (upTo (countAt s) n (recordedBy r .next, sum + recordedBy r .value) ≡ drop (suc j) ns)
       go (numeral.Read v next) q = by v next (ltb (sum + v) countLimit) q
-      go numeral.Bad q = absurd (let z : _≡_ {A = ℕ} 0 1 = cc in omega arith)
+      go numeral.Bad q = absurd (true≢false cc)
 
   module _ (image : List ℕ) (kind : Kind) where
     pub record NextKey (ks : List Key) (d : Key) : Type 0 where
@@ -68,4 +67,4 @@ module _ (s : List ℕ) (n i j : ℕ) where
             (λ a d. a ∷ upTo (items s (keyForm kind)) n d)) ≡ drop j ks
             → NextKey ks d
         go (sized.At at len next) q k = next-key ks d q h k
-        go sized.Bad q k = absurd (let e = k ∙ drop-cons ks j d h in let z : _≡_ {A = ℕ} 0 1 = cc in omega arith)
+        go sized.Bad q k = absurd (let e = k ∙ drop-cons ks j d h in true≢false cc)

@@ -2,18 +2,34 @@
 use key::Kind;
 use key::Sized;
 use numeral::Numeral;
+use page::Judged;
 use position::Position;
 use refusal::Refusal;
 use rising::Bound;
 use rising::keys_lie;
+use rising::separators_lie;
 ghost use mathlib.Core.Path.{_≡_};
-ghost use Rattle.soundness.specs.Examining.{leafOf, recordedAt, separatorAt, childOf};
+ghost use Rattle.tree.specs.Examination.{nothing};
+ghost use Rattle.soundness.specs.Examining.{figures, leafOf, partOf, recordedAt, separatorAt, childOf};
 
 // What the examination reports: entries, pages and the deepest page's depth.
 pub struct Report {
     pub entries: u64,
     pub pages: u64,
     pub depth: u32,
+}
+
+impl Report {
+    // Of no page.
+    pub fn none() -> Self
+        ensures { λ r. ⌜ r ≡ figures nothing ⌝ }
+    {
+        Report {
+            entries: 0,
+            pages: 0,
+            depth: 0,
+        }
+    }
 }
 
 pub enum Examined {
@@ -28,6 +44,13 @@ pub struct Inner {
     pub counts: usize,
     pub keys: usize,
     pub end: usize,
+}
+
+// What a page that is judged says by itself: all that there is under it, or an inner page whose children
+// are still to be examined.
+pub enum Part {
+    Done(Examined),
+    Children(Inner),
 }
 
 // The nearest separators above on each side.
@@ -58,7 +81,7 @@ pub struct Separator {
 }
 
 // A leaf: only the root may be empty.
-pub fn leaf_of(
+fn leaf_of(
     image: &[u8],
     kind: Kind,
     n: u32,
@@ -84,6 +107,42 @@ pub fn leaf_of(
         });
     }
     Examined::Refused(Refusal::new(Refusal::UNSOUND))
+}
+
+// A page that is judged: its own rules before its keys, its separators before its children.
+pub fn part_at(image: &[u8], kind: Kind, j: Judged, span: Span, top: bool) -> Part
+    ensures { λ r. ⌜ r ≡ partOf (now (image .entry)) kind (span .lo) (span .hi) top j ⌝ }
+{
+    match j {
+        Judged::Refused(r) => Part::Done(Examined::Refused(r)),
+        Judged::Leaf {
+            n,
+            keys,
+            values: _,
+            end,
+        } => Part::Done(leaf_of(image, kind, n, keys, end, span, top)),
+        Judged::Inner {
+            n,
+            positions,
+            counts,
+            keys,
+            end,
+            total: _,
+        } => {
+            let lo = span.lo;
+            let hi = span.hi;
+            if separators_lie(image, kind, n, keys, end, lo, hi) {
+                return Part::Children(Inner {
+                    n,
+                    positions,
+                    counts,
+                    keys,
+                    end,
+                });
+            }
+            Part::Done(Examined::Refused(Refusal::new(Refusal::UNSOUND)))
+        }
+    }
 }
 
 // The recorded count at a place, and the place after it.

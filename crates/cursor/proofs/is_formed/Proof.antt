@@ -1,5 +1,6 @@
 use Prim.Native.Nat.{ℕ}
 use mathlib.Core.Path.{_≡_, _∙_}
+use mathlib.Core.Bool.{true≢false}
 use native.Mathlib.Omega.{arith}
 use borrow.Author.Tests.{eq-eqb, ne-eqb, le-leb, lt-leb}
 use Rattle.cursor.specs.Walk.{formed}
@@ -11,14 +12,14 @@ returns : tie.Need-returns
 unfolding formed
 returns c =
     let if1 = c .if1 in
-    (rw (ne-eqb _ _ (if1 .taken)), λ e. absurd (let z : _≡_ {A = ℕ} 0 1 = cc in omega arith))
+    (rw (ne-eqb _ _ (if1 .taken)), λ e. absurd (true≢false cc))
 
 returns-2 : tie.Need-returns-2
 unfolding formed
 returns-2 c =
     let a = c .before .before .before .before .args in
     let w = a .w in
-    (rw (eq-eqb (w .last) 0 (omega arith), lt-leb (w .depth) 16 (omega arith)), λ e. absurd (let z : _≡_ {A = ℕ} 0 1 = cc in omega arith))
+    (rw (eq-eqb (w .last) 0 (omega arith), lt-leb (w .depth) 16 (omega arith)), λ e. absurd (true≢false cc))
 
 returns-3 : tie.Need-returns-3
 unfolding formed
