@@ -16,7 +16,7 @@ use lib.Dec.{eqb}
 use Rattle.refusal.specs.Refusal.{Outcome, ok, refuse, bind, outOfPlace}
 use Rattle.tree.specs.Page.{branch, Page}
 use Rattle.tree.specs.Asking.{lookup, mapLookup}
-use Rattle.locating.specs.Locating.{Metadata, located, gate}
+use Rattle.locating.specs.Locating.{Metadata, readAt, located, gate}
 
 pub record Gated {A : Type 0} (n : ℕ) (f g : ℕ → Outcome A) : Type 0 where
   pub with : (r : ℕ) → f r ≡ gate n r (g r)
@@ -27,7 +27,7 @@ Known m c l n = Gated n (λ r. located m r c) (λ r. ok l)
 -- ## A map
 module _ {K W L : Type 0} (m : Metadata K W L) (pageIn : L → ℕ → Outcome (Page K W)) where
   abbrev pub readWith : ℕ → ℕ → Outcome (Page K W)
-  readWith r p = branch (eqb p 0) (refuse outOfPlace) (bind (located m r (m .chunkOf p)) (λ l. pageIn l p))
+  readWith r p = readAt (m .chunkOf) (located m r) pageIn p
 
   abbrev pub askedBelow : K → ℕ → ℕ → ℕ → Outcome (Option W)
   askedBelow k levels p r = lookup (m .compare) (readWith r) levels k p

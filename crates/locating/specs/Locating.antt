@@ -4,7 +4,8 @@
 --
 --   Metadata          the parameters: the newest chunk and its place, the root, and how keys, values and pages are read
 --   placed m c o      where the metadata's answer o says that chunk c stands
---   pageBy m loc p    the page at p, its chunk located by loc
+--   readAt chunk loc page p   the page at p: its chunk located by loc, the page there read by page
+--   pageBy m loc p    the metadata's page at p, its chunk located by loc
 --   located m q c     where chunk c is, with q questions that may still be opened
 --   asked m k q       the metadata's answer for the key k, with q questions that may still be opened
 --   gate n r o        the answer o that takes n questions, asked with r of them
@@ -15,6 +16,10 @@ use Rattle.refusal.specs.Refusal.{Outcome, ok, refuse, bind, notLocated, ninthQ
 use Rattle.order.specs.declared.Order.{Order}
 use Rattle.tree.specs.Page.{branch, Page}
 use Rattle.tree.specs.Asking.{mapLookup}
+
+-- "A page judges in this order: [..] child position 0, location, place, [..]"
+abbrev pub readAt : {L P : Type 0} → (ℕ → ℕ) → (ℕ → Outcome L) → (L → ℕ → Outcome P) → ℕ → Outcome P
+readAt chunk loc page p = branch (eqb p 0) (refuse outOfPlace) (bind (loc (chunk p)) (λ l. page l p))
 
 -- keys K, places of values W, places of chunks L
 pub record Metadata (K W L : Type 0) : Type 1 where
@@ -38,9 +43,8 @@ module _ {K W L : Type 0} (m : Metadata K W L) where
   placed c (ok none) = refuse notLocated
   placed c (ok (some w)) = m .standing c w
 
-  -- "A page judges in this order: [..] child position 0, location, place, [..]"
   abbrev pub pageBy : (ℕ → Outcome L) → ℕ → Outcome (Page K W)
-  pageBy loc p = branch (eqb p 0) (refuse outOfPlace) (bind (loc (m .chunkOf p)) (λ l. m .pageIn l p))
+  pageBy loc p = readAt (m .chunkOf) loc (m .pageIn) p
 
   unfoldable pub located : ℕ → ℕ → Outcome L
   located zero c = branch (eqb c (m .newest)) (ok (m .newestAt)) (refuse ninthQuestion)

@@ -35,7 +35,7 @@ pub fn id(answer: Id) {
 
 pub fn root(answer: Root) {
     match answer {
-        Root::At(position) => named(b"root ", position),
+        Root::At(position) => named(b"root ", position.bits),
         Root::Refused(r) => refused(r),
     }
 }

@@ -29,10 +29,10 @@ use Rattle.opening.specs.Opening.{kept, hasId}
 use Rattle.item.specs.Item.{Spot}
 use Rattle.page.specs.declared.Place.{Place}
 use Rattle.content.specs.Content.{Entry}
-use Rattle.metadata.specs.declared.Told.{Told}
-use Rattle.metadata.specs.declared.Told.the-variants as told
-use Rattle.metadata.specs.declared.Looked.{Looked}
-use Rattle.metadata.specs.declared.Looked.the-variants as looked
+use Rattle.metadata.specs.declared.Location.{Location}
+use Rattle.metadata.specs.declared.Location.the-variants as location
+use Rattle.metadata.specs.declared.Answer.{Answer}
+use Rattle.metadata.specs.declared.Answer.the-variants as answer
 use Rattle.metadata.specs.declared.Located.{Located}
 use Rattle.metadata.specs.declared.Located.the-variants as located
 use Rattle.metadata.specs.declared.Id.{Id}
@@ -93,26 +93,26 @@ abbrev pub rootSaid : Root → Outcome ℕ
 rootSaid (root.At p) = ok (p .bits)
 rootSaid (root.Refused r) = refuse r
 
-abbrev pub needOf : Looked → ℕ
-needOf (looked.Found at len need) = need
-needOf (looked.Absent need) = need
-needOf (looked.Refused r) = 0
+abbrev pub needOf : Answer → ℕ
+needOf (answer.Found at len need) = need
+needOf (answer.Absent need) = need
+needOf (answer.Refused r) = 0
 
-unfoldable pub locatedBy : Told → Located
-locatedBy (told.At l need) = located.At l
-locatedBy (told.Refused r) = located.Refused r
+unfoldable pub locatedBy : Location → Located
+locatedBy (location.At l need) = located.At l
+locatedBy (location.Refused r) = located.Refused r
 
-unfoldable pub valueBy : Looked → Value
-valueBy (looked.Found at len need) = value.At at len
-valueBy (looked.Absent need) = value.Absent
-valueBy (looked.Refused r) = value.Refused r
+unfoldable pub valueBy : Answer → Value
+valueBy (answer.Found at len need) = value.At at len
+valueBy (answer.Absent need) = value.Absent
+valueBy (answer.Refused r) = value.Refused r
 
-unfoldable pub idBy : List ℕ → Looked → Outcome ℕ
-idBy image (looked.Found at len need) = idOf (hexOf (bytesAt image (record { at = at; len = len })))
-idBy image (looked.Absent need) = refuse noSuchName
-idBy image (looked.Refused r) = refuse r
+unfoldable pub idBy : List ℕ → Answer → Outcome ℕ
+idBy image (answer.Found at len need) = idOf (hexOf (bytesAt image (record { at = at; len = len })))
+idBy image (answer.Absent need) = refuse noSuchName
+idBy image (answer.Refused r) = refuse r
 
-unfoldable pub rootBy : List ℕ → Looked → Outcome ℕ
-rootBy image (looked.Found at len need) = rootOf (hexOf (bytesAt image (record { at = at; len = len })))
-rootBy image (looked.Absent need) = ok 0
-rootBy image (looked.Refused r) = refuse r
+unfoldable pub rootBy : List ℕ → Answer → Outcome ℕ
+rootBy image (answer.Found at len need) = rootOf (hexOf (bytesAt image (record { at = at; len = len })))
+rootBy image (answer.Absent need) = ok 0
+rootBy image (answer.Refused r) = refuse r

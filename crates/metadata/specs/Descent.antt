@@ -11,9 +11,9 @@ use Rattle.tree.specs.Page.{Page, leaf, inner}
 use Rattle.tree.specs.Asking.{findIn, childFor}
 use Rattle.page.specs.declared.Place.{Place}
 use Rattle.content.specs.Content.{Entry}
-use Rattle.metadata.specs.declared.Told.{Told}
-use Rattle.metadata.specs.declared.Told.the-variants as told
-use Rattle.metadata.specs.declared.Looked.the-variants as looked
+use Rattle.metadata.specs.declared.Location.{Location}
+use Rattle.metadata.specs.declared.Location.the-variants as location
+use Rattle.metadata.specs.declared.Answer.the-variants as answer
 use Rattle.metadata.specs.declared.descent.Step.{Step}
 use Rattle.metadata.specs.declared.descent.Step.the-variants as step
 use Rattle.metadata.specs.declared.descent.Advance.{Advance}
@@ -30,10 +30,10 @@ stepOf k (ok (inner cs)) = step.Child (ofBits (childFor compareKeys k cs))
 
 abbrev pub advanceBy : ℕ → Step → Advance
 advanceBy need (step.Child p) = To p need
-advanceBy need (step.Found at len) = Done (looked.Found at len need)
-advanceBy need step.Absent = Done (looked.Absent need)
-advanceBy need (step.Refused r) = Done (looked.Refused r)
+advanceBy need (step.Found at len) = Done (answer.Found at len need)
+advanceBy need step.Absent = Done (answer.Absent need)
+advanceBy need (step.Refused r) = Done (answer.Refused r)
 
-unfoldable pub advanceOf : (Place → Step) → ℕ → Told → Advance
-advanceOf s need (told.Refused r) = Done (looked.Refused r)
-advanceOf s need (told.At l n) = advanceBy (max need n) (s l)
+unfoldable pub advanceOf : (Place → Step) → ℕ → Location → Advance
+advanceOf s need (location.Refused r) = Done (answer.Refused r)
+advanceOf s need (location.At l n) = advanceBy (max need n) (s l)

@@ -1,9 +1,9 @@
 -- Laws of one page of a descent, one for each way that the code takes. s is the image up to the page's end.
 use Prim.Native.Nat.{ℕ, _+_, max}
 use mathlib.Core.Path.{_≡_, _∙_, ap}
+use mathlib.Core.Bool.{true≢false}
 use mathlib.Core.List.{List}
 use mathlib.Core.Option.{Option, none, some}
-use native.Mathlib.Omega.{arith}
 use lib.ListN.{getD, take}
 use Rattle.refusal.specs.declared.Refusal.{Refusal}
 use Rattle.position.specs.declared.Position.{Position}
@@ -18,19 +18,19 @@ use Rattle.page.specs.declared.Judged.the-variants as judged
 use Rattle.page.specs.Judged.{judgedAt}
 use Rattle.content.specs.declared.Found.the-variants as found
 use Rattle.content.specs.Content.{Entry, keysIn, positionsIn, countsIn, entriesIn, foundOf, pageOf, pageIn}
-use Rattle.metadata.specs.declared.Told.{Told}
-use Rattle.metadata.specs.declared.Told.the-variants as told
+use Rattle.metadata.specs.declared.Location.{Location}
+use Rattle.metadata.specs.declared.Location.the-variants as location
 use Rattle.metadata.specs.declared.descent.Step.{Step}
 use Rattle.metadata.specs.declared.descent.Step.the-variants as step
 use Rattle.metadata.specs.Descent.{foundStep, stepOf, advanceBy, advanceOf}
 
 found-step : (o : Option Entry) {at len : ℕ} → foundOf o ≡ found.At at len → foundStep o ≡ step.Found at len
-found-step none e = absurd (let z : _≡_ {A = ℕ} 0 1 = cc in omega arith)
+found-step none e = absurd (true≢false cc)
 found-step (some v) e = cc
 
 absent-step : (o : Option Entry) → foundOf o ≡ found.Absent → foundStep o ≡ step.Absent
 absent-step none e = cc
-absent-step (some v) e = absurd (let z : _≡_ {A = ℕ} 0 1 = cc in omega arith)
+absent-step (some v) e = absurd (true≢false cc)
 
 -- ## A page
 module _ (image : List ℕ) (c : Place) (p map : ℕ) (kind : Kind) (k : Key) where
@@ -60,11 +60,11 @@ module _ (image : List ℕ) (c : Place) (p map : ℕ) (kind : Kind) (k : Key) wh
       rw (e, ← i, childFor-childrenOf compareKeys k (positionsIn s (n + 1) positions) (countsIn s (n + 1) counts) (keysIn s kind n keys), b, a)
 
 -- ## A descent after it
-pub advance-refused : (s : Place → Step) (need : ℕ) {l : Told} {r : Refusal} → l ≡ told.Refused r
-    → advanceOf s need l ≡ advanceOf s need (told.Refused r)
+pub advance-refused : (s : Place → Step) (need : ℕ) {l : Location} {r : Refusal} → l ≡ location.Refused r
+    → advanceOf s need l ≡ advanceOf s need (location.Refused r)
 advance-refused s need e = ap (advanceOf s need) e
 
-pub advance-step : (s : Place → Step) (need : ℕ) {l : Told} {x : Place} {n : ℕ} (most : ℕ) {t : Step} → l ≡ told.At x n
+pub advance-step : (s : Place → Step) (need : ℕ) {l : Location} {x : Place} {n : ℕ} (most : ℕ) {t : Step} → l ≡ location.At x n
     → most ≡ max need n → s x ≡ t → advanceOf s need l ≡ advanceBy most t
 unfolding advanceOf
 advance-step s need most e i f = rw (e, i, f)

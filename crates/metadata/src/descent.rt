@@ -1,6 +1,6 @@
 // One page of a descent, and a descent after it.
-use super::Looked;
-use super::Told;
+use super::Answer;
+use super::Location;
 use content::Found;
 use key::Kind;
 use page::Judged;
@@ -23,7 +23,7 @@ pub enum Step {
 // A descent after one page more: the position to go on at, or the answer.
 pub enum Advance {
     To { position: Position, need: u32 },
-    Done(Looked),
+    Done(Answer),
 }
 
 // What the page at position `p` of a located chunk answers a lookup of `key`.
@@ -63,7 +63,7 @@ fn step_at(image: &[u8], place: Place, p: Position, map: u32, kind: Kind, key: &
 // A descent after the page at `p`, whose chunk `l` tells of; `need` is what it took so far.
 pub fn advance_at(
     image: &[u8],
-    l: Told,
+    l: Location,
     need: u32,
     p: Position,
     map: u32,
@@ -73,8 +73,8 @@ pub fn advance_at(
     ensures { λ r. ⌜ r ≡ advanceOf (λ x. stepOf (keyOf kind (now (key .entry))) (pageIn (now (image .entry)) x (p .bits) map kind)) need l ⌝ }
 {
     match l {
-        Told::Refused(r) => Advance::Done(Looked::Refused(r)),
-        Told::At { place, need: n } => {
+        Location::Refused(r) => Advance::Done(Answer::Refused(r)),
+        Location::At { place, need: n } => {
             let most = if need < n { n } else { need };
             let s = step_at(image, place, p, map, kind, key);
             match s {
@@ -82,13 +82,13 @@ pub fn advance_at(
                     position: c,
                     need: most,
                 },
-                Step::Found { at, len } => Advance::Done(Looked::Found {
+                Step::Found { at, len } => Advance::Done(Answer::Found {
                     at,
                     len,
                     need: most,
                 }),
-                Step::Absent => Advance::Done(Looked::Absent { need: most }),
-                Step::Refused(r) => Advance::Done(Looked::Refused(r)),
+                Step::Absent => Advance::Done(Answer::Absent { need: most }),
+                Step::Refused(r) => Advance::Done(Answer::Refused(r)),
             }
         }
     }

@@ -23,13 +23,13 @@ ghost use mathlib.Core.Path.{_≡_};
 ghost use Rattle.metadata.specs.Answers.{placeOf, standingBy, idOf, rootOf, idSaid, rootSaid, locatedBy, valueBy, idBy, rootBy};
 
 // Where a chunk is, and the questions that locating it takes; or the refusal.
-pub enum Told {
+pub enum Location {
     At { place: Place, need: u32 },
     Refused(Refusal),
 }
 
 // What a lookup found: a value by place and length, with the questions that the lookup takes.
-pub enum Looked {
+pub enum Answer {
     Found { at: usize, len: usize, need: u32 },
     Absent { need: u32 },
     Refused(Refusal),
@@ -82,22 +82,22 @@ pub fn standing_by(image: &[u8], n: u32, at: usize, len: usize) -> Standing
     }
 }
 
-pub fn located_by(t: Told) -> Located
+pub fn located_by(t: Location) -> Located
     ensures { λ r. ⌜ r ≡ locatedBy t ⌝ }
 {
     match t {
-        Told::At { place, need: _ } => Located::At(place),
-        Told::Refused(r) => Located::Refused(r),
+        Location::At { place, need: _ } => Located::At(place),
+        Location::Refused(r) => Located::Refused(r),
     }
 }
 
-pub fn value_by(f: Looked) -> Value
+pub fn value_by(f: Answer) -> Value
     ensures { λ r. ⌜ r ≡ valueBy f ⌝ }
 {
     match f {
-        Looked::Found { at, len, need: _ } => Value::At { at, len },
-        Looked::Absent { need: _ } => Value::Absent,
-        Looked::Refused(r) => Value::Refused(r),
+        Answer::Found { at, len, need: _ } => Value::At { at, len },
+        Answer::Absent { need: _ } => Value::Absent,
+        Answer::Refused(r) => Value::Refused(r),
     }
 }
 
@@ -118,15 +118,15 @@ fn id_of(n: Number) -> Id
 }
 
 // The id that the metadata's answer gives.
-pub fn id_by(image: &[u8], f: Looked) -> Id
+pub fn id_by(image: &[u8], f: Answer) -> Id
     ensures { λ r. ⌜ idSaid r ≡ idBy (now (image .entry)) f ⌝ }
 {
     match f {
-        Looked::Found { at, len, need: _ } => {
+        Answer::Found { at, len, need: _ } => {
             id_of(numeral::read_hex(opening::area_at(image, at, len)))
         }
-        Looked::Absent { need: _ } => Id::Refused(Refusal::new(Refusal::NO_SUCH_NAME)),
-        Looked::Refused(r) => Id::Refused(r),
+        Answer::Absent { need: _ } => Id::Refused(Refusal::new(Refusal::NO_SUCH_NAME)),
+        Answer::Refused(r) => Id::Refused(r),
     }
 }
 
@@ -140,16 +140,16 @@ fn root_of(n: Number) -> Root
 }
 
 // The root that the metadata's answer gives; without an entry the map is empty.
-pub fn root_by(image: &[u8], f: Looked) -> Root
+pub fn root_by(image: &[u8], f: Answer) -> Root
     ensures { λ r. ⌜ rootSaid r ≡ rootBy (now (image .entry)) f ⌝ }
 {
     match f {
-        Looked::Found { at, len, need: _ } => {
+        Answer::Found { at, len, need: _ } => {
             root_of(numeral::read_hex(opening::area_at(image, at, len)))
         }
-        Looked::Absent { need: _ } => Root::At(Position {
+        Answer::Absent { need: _ } => Root::At(Position {
             bits: Position::EMPTY,
         }),
-        Looked::Refused(r) => Root::Refused(r),
+        Answer::Refused(r) => Root::Refused(r),
     }
 }

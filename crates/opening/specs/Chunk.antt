@@ -11,6 +11,7 @@ use mathlib.Core.Bool.{Bool, cond, _&&_}
 use mathlib.Core.List.{List}
 use lib.Dec.{eqb, leb, ltb}
 use Rattle.line.specs.Fields.{nameBlock, nameChunk, nameVersion, nameLen, nameNext, namePages, nameRoot}
+use Rattle.position.specs.Position.{ofBits}
 use Rattle.opening.specs.declared.image.Reading.{Reading}
 use Rattle.opening.specs.declared.chunk.Chunk.{Chunk}
 use Rattle.opening.specs.declared.chunk.Standing.{Standing}
@@ -38,7 +39,7 @@ chunkOf b r =
       len = value r nameLen;
       first = suc (r .newline);
       next = value r nameNext;
-      root = value r nameRoot;
+      root = ofBits (value r nameRoot);
       version = value r nameVersion;
     }
 

@@ -1,7 +1,7 @@
 -- Laws of standing chunks.
 use Prim.Native.Nat.{ℕ, _+_, _-_, _^_, _<_, _≤_}
 use mathlib.Core.Path.{_≡_, refl, sym, _∙_, ap, subst}
-use mathlib.Core.Bool.{Bool, true, false, cond, _&&_, true≢false}
+use mathlib.Core.Bool.{Bool, true, false, cond, _&&_, and-eq-true-iff, true≢false}
 use mathlib.Core.List.{List}
 use native.Mathlib.Omega.{arith}
 use borrow.Author.Tests.{ltb-true, leb-true, leb-false, eqb-true, le-leb, lt-leb}
@@ -15,10 +15,6 @@ use Rattle.opening.specs.Image.{blocksIn, chunkLine, footerLine, value}
 use Rattle.opening.specs.Chunk.{needed, fitting, chunkOf, footerOf, footed, saidAt, withFooter, standsAt}
 use Rattle.opening.specs.ImageLaws.{blocks-most, newline-small}
 
-both : (a b : Bool) → a && b ≡ true → (a ≡ true) × (b ≡ true)
-both true b e = (refl, e)
-both false b e = (e, cc)
-
 -- ## A header that fits its block
 pub record Fits (blocks b : ℕ) (r : Reading) : Type 0 where
   pub id-small : value r nameChunk < 2 ^ 26
@@ -29,9 +25,9 @@ pub record Fits (blocks b : ℕ) (r : Reading) : Type 0 where
 pub fitting-fits : (blocks b : ℕ) (r : Reading) → fitting blocks b r ≡ true → Fits blocks b r
 unfolding fitting
 fitting-fits blocks b r e =
-    let one = both (ltb (value r nameChunk) (2 ^ 26)) _ e in
-    let two = both (eqb (value r nameBlock) b) _ (one .1) in
-    let three = both (leb 1 (value r nameLen)) (leb (b + value r nameLen) blocks) (two .1) in
+    let one = and-eq-true-iff (ltb (value r nameChunk) (2 ^ 26)) _ .0 e in
+    let two = and-eq-true-iff (eqb (value r nameBlock) b) _ .0 (one .1) in
+    let three = and-eq-true-iff (leb 1 (value r nameLen)) (leb (b + value r nameLen) blocks) .0 (two .1) in
     record {
       id-small = ltb-true (value r nameChunk) (2 ^ 26) (one .0);
       block-right = eqb-true (value r nameBlock) b (two .0);

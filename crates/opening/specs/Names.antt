@@ -8,7 +8,6 @@ use mathlib.Core.Bool.{Bool, false}
 use mathlib.Core.List.{List}
 use lib.ListN.{getD}
 use Rattle.line.specs.declared.read.Fields.{Fields}
-use Rattle.line.specs.Fields.{nameBlock}
 use Rattle.line.specs.Reading.{slotOf}
 
 abbrev pub givenAt : Fields → ℕ → Bool
@@ -22,7 +21,3 @@ givenOf f name = givenAt f (slotOf name)
 
 abbrev pub valueOf : Fields → List ℕ → ℕ
 valueOf f name = valueAt f (slotOf name)
-
--- the slot of `block`, for laws that speak of slots
-abbrev pub block : ℕ
-block = slotOf nameBlock

@@ -4,6 +4,7 @@ use super::image::blocks_in;
 use super::image::chunk_line;
 use super::image::footer_line;
 use line::Fields;
+use position::Position;
 ghost use Prim.Native.Nat.{_+_, _^_, _<_};
 ghost use mathlib.Core.Path.{_≡_};
 ghost use Rattle.opening.specs.Chunk.{needed, fitting, chunkOf, footerOf, footed, standsAt, saidAt};
@@ -17,7 +18,7 @@ pub struct Chunk {
     pub len: u32,
     pub first: u32,
     pub next: u64,
-    pub root: u64,
+    pub root: Position,
     pub version: u64,
 }
 
@@ -69,7 +70,9 @@ fn chunk_of(b: u32, r: Reading) -> Chunk
         len: r.value(Fields::LEN) as u32,
         first: r.newline as u32 + 1,
         next: r.value(Fields::NEXT),
-        root: r.value(Fields::ROOT),
+        root: Position {
+            bits: r.value(Fields::ROOT),
+        },
         version: r.value(Fields::VERSION),
     }
 }

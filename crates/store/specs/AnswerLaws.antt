@@ -14,63 +14,63 @@ use Rattle.tree.specs.Asking.{mapLookup}
 use Rattle.locating.specs.GateLaws.{gated-open}
 use Rattle.opening.specs.declared.chunk.Chunk.{Chunk}
 use Rattle.content.specs.Content.{Entry}
-use Rattle.metadata.specs.declared.Told.{Told}
-use Rattle.metadata.specs.declared.Told.the-variants as told
-use Rattle.metadata.specs.declared.Looked.{Looked}
-use Rattle.metadata.specs.declared.Looked.the-variants as looked
+use Rattle.metadata.specs.declared.Location.{Location}
+use Rattle.metadata.specs.declared.Location.the-variants as location
+use Rattle.metadata.specs.declared.Answer.{Answer}
+use Rattle.metadata.specs.declared.Answer.the-variants as answer
 use Rattle.metadata.specs.Answers.{namedId, namedRoot, placeSaid, locatedBy, valueBy, idBy, rootBy}
 use Rattle.metadata.specs.Keys.{nameKey, rootKey}
 use Rattle.store.specs.Store.{chunkAt, reader, metaValue, mapId, mapRoot, namedMap}
 use Rattle.store.specs.Asking.{valueOf}
-use Rattle.store.specs.Memory.{TellsOf, Sought}
+use Rattle.store.specs.Memory.{IsLocation, IsAnswer}
 
 module _ (image : List ℕ) (newest : Chunk) where
   -- ## Where a chunk is
-  pub place-told : (c : ℕ) (t : Told) → TellsOf image newest 8 c t → placeSaid (locatedBy t) ≡ chunkAt image newest 8 c
-  unfolding chunkAt TellsOf locatedBy
-  place-told c (told.At l n) (h, d) = sym (gated-open d 8 h)
-  place-told c (told.Refused r) t = sym t
+  pub place-told : (c : ℕ) (t : Location) → IsLocation image newest 8 c t → placeSaid (locatedBy t) ≡ chunkAt image newest 8 c
+  unfolding chunkAt IsLocation locatedBy
+  place-told c (location.At l n) (h, d) = sym (gated-open d 8 h)
+  place-told c (location.Refused r) t = sym t
 
   -- ## What was sought in a map
   module _ (map : ℕ) (kind : Kind) (root : ℕ) (k : Key) where
-    sought-found : (at len n : ℕ) → Sought image newest map kind root k 8 (looked.Found at len n)
+    sought-found : (at len n : ℕ) → IsAnswer image newest map kind root k 8 (answer.Found at len n)
         → (e : Entry) × (e .value ≡ record { at = at; len = len }) × (mapLookup compareKeys (reader image newest map kind) k root ≡ ok (some e))
-    unfolding Sought reader chunkAt
+    unfolding IsAnswer reader chunkAt
     sought-found at len n (e, i, h, g) = (e, i, gated-open g 8 h)
 
-    sought-absent : (n : ℕ) → Sought image newest map kind root k 8 (looked.Absent n)
+    sought-absent : (n : ℕ) → IsAnswer image newest map kind root k 8 (answer.Absent n)
         → mapLookup compareKeys (reader image newest map kind) k root ≡ ok none
-    unfolding Sought reader chunkAt
+    unfolding IsAnswer reader chunkAt
     sought-absent n (h, g) = gated-open g 8 h
 
-    sought-refused : {r : Refusal} → Sought image newest map kind root k 8 (looked.Refused r)
+    sought-refused : {r : Refusal} → IsAnswer image newest map kind root k 8 (answer.Refused r)
         → mapLookup compareKeys (reader image newest map kind) k root ≡ refuse r
-    unfolding Sought reader chunkAt
+    unfolding IsAnswer reader chunkAt
     sought-refused s = s
 
-    pub value-sought : (f : Looked) → Sought image newest map kind root k 8 f
+    pub value-sought : (f : Answer) → IsAnswer image newest map kind root k 8 f
         → valueBy f ≡ valueOf (mapLookup compareKeys (reader image newest map kind) k root)
     unfolding valueBy valueOf
-    value-sought (looked.Found at len n) s = let m = sought-found at len n s in rw (m .2, m .1)
-    value-sought (looked.Absent n) s = rw (sought-absent n s)
-    value-sought (looked.Refused r) s = rw (sought-refused s)
+    value-sought (answer.Found at len n) s = let m = sought-found at len n s in rw (m .2, m .1)
+    value-sought (answer.Absent n) s = rw (sought-absent n s)
+    value-sought (answer.Refused r) s = rw (sought-refused s)
 
   -- ## A map's id and root
-  id-by : (k : List ℕ) (f : Looked) → Sought image newest 0 Text (newest .root) (text k) 8 f
+  id-by : (k : List ℕ) (f : Answer) → IsAnswer image newest 0 Text (newest .root .bits) (text k) 8 f
       → idBy image f ≡ bind (metaValue image newest k) (namedId image)
   unfolding idBy metaValue
-  id-by k (looked.Found at len n) s = let m = sought-found 0 Text (newest .root) (text k) at len n s in rw (m .2, m .1)
-  id-by k (looked.Absent n) s = rw (sought-absent 0 Text (newest .root) (text k) n s)
-  id-by k (looked.Refused r) s = rw (sought-refused 0 Text (newest .root) (text k) s)
+  id-by k (answer.Found at len n) s = let m = sought-found 0 Text (newest .root .bits) (text k) at len n s in rw (m .2, m .1)
+  id-by k (answer.Absent n) s = rw (sought-absent 0 Text (newest .root .bits) (text k) n s)
+  id-by k (answer.Refused r) s = rw (sought-refused 0 Text (newest .root .bits) (text k) s)
 
-  root-by : (k : List ℕ) (f : Looked) → Sought image newest 0 Text (newest .root) (text k) 8 f
+  root-by : (k : List ℕ) (f : Answer) → IsAnswer image newest 0 Text (newest .root .bits) (text k) 8 f
       → rootBy image f ≡ bind (metaValue image newest k) (namedRoot image)
   unfolding rootBy metaValue
-  root-by k (looked.Found at len n) s = let m = sought-found 0 Text (newest .root) (text k) at len n s in rw (m .2, m .1)
-  root-by k (looked.Absent n) s = rw (sought-absent 0 Text (newest .root) (text k) n s)
-  root-by k (looked.Refused r) s = rw (sought-refused 0 Text (newest .root) (text k) s)
+  root-by k (answer.Found at len n) s = let m = sought-found 0 Text (newest .root .bits) (text k) at len n s in rw (m .2, m .1)
+  root-by k (answer.Absent n) s = rw (sought-absent 0 Text (newest .root .bits) (text k) n s)
+  root-by k (answer.Refused r) s = rw (sought-refused 0 Text (newest .root .bits) (text k) s)
 
-  module _ (bytes : List ℕ) (f : Looked) (s : Sought image newest 0 Text (newest .root) (keyOf Text bytes) 8 f) where
+  module _ (bytes : List ℕ) (f : Answer) (s : IsAnswer image newest 0 Text (newest .root .bits) (keyOf Text bytes) 8 f) where
     pub id-sought : (name : List ℕ) → length name ≤ 1000 → bytes ≡ nameKey name → idBy image f ≡ namedMap image newest name
     unfolding namedMap mapId keyOf
     id-sought name h e = rw (le-ltb 1000 (length name) h) (id-by (nameKey name) f (rw e at s))
@@ -83,6 +83,6 @@ module _ (image : List ℕ) (newest : Chunk) where
   unfolding namedMap
   name-long name h = rw (lt-ltb 1000 (length name) h)
 
-  pub root-metadata : (map : ℕ) → map ≡ 0 → mapRoot image newest map ≡ ok (newest .root)
+  pub root-metadata : (map : ℕ) → map ≡ 0 → mapRoot image newest map ≡ ok (newest .root .bits)
   unfolding mapRoot
   root-metadata map e = rw (eq-eqb map 0 e)

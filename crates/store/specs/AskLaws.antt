@@ -36,7 +36,7 @@ use Rattle.content.specs.PickLaws.{picked}
 use Rattle.content.specs.WholeLaws.{Whole, index-whole, total-whole}
 use Rattle.metadata.specs.declared.Root.{Root}
 use Rattle.metadata.specs.declared.Root.the-variants as root
-use Rattle.metadata.specs.declared.Looked.{Looked}
+use Rattle.metadata.specs.declared.Answer.{Answer}
 use Rattle.metadata.specs.declared.Value.the-variants as value
 use Rattle.metadata.specs.Answers.{rootSaid, valueBy}
 use Rattle.store.specs.declared.Fetched.{Fetched}
@@ -46,7 +46,7 @@ use Rattle.store.specs.declared.Counted.the-variants as counted
 use Rattle.store.specs.declared.fetch.Turn.{Turn}
 use Rattle.store.specs.declared.fetch.Turn.the-variants as turn
 use Rattle.store.specs.Store.{reader, mapRoot}
-use Rattle.store.specs.Memory.{Sought}
+use Rattle.store.specs.Memory.{IsAnswer}
 use Rattle.store.specs.Asking.{judgedBy, lookupIn, indexIn, countIn, valueOf, fetchedOf, countedOf, entryTurn, childTurn, turnOf}
 use Rattle.store.specs.AnswerLaws.{value-sought}
 use Rattle.store.specs.ReadLaws.{reader-judged, judged-all}
@@ -188,7 +188,7 @@ module _ (image : List ℕ) (newest : Chunk) (map : ℕ) (kind : Kind) where
     rooted ask f = rw (← f, e)
 
     module _ {p : Position} (f : r ≡ root.At p) where
-      pub lookup-rooted : (k : Key) (l : Looked) → Sought image newest map kind (p .bits) k 8 l → valueBy l ≡ valueOf (lookupIn image newest map kind k)
+      pub lookup-rooted : (k : Key) (l : Answer) → IsAnswer image newest map kind (p .bits) k 8 l → valueBy l ≡ valueOf (lookupIn image newest map kind k)
       unfolding lookupIn
       lookup-rooted k l s = value-sought image newest map kind (p .bits) k l s ∙ ap valueOf (rooted _ f)
 

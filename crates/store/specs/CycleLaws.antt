@@ -25,17 +25,17 @@ use Rattle.page.specs.declared.Place.{Place}
 use Rattle.content.specs.Content.{Entry, pageIn}
 use Rattle.memory.specs.declared.Recalled.the-variants as recalled
 use Rattle.memory.specs.Words.{recalledIn}
-use Rattle.metadata.specs.declared.Told.{Told}
-use Rattle.metadata.specs.declared.Told.the-variants as told
-use Rattle.metadata.specs.declared.Looked.{Looked}
-use Rattle.metadata.specs.declared.Looked.the-variants as looked
+use Rattle.metadata.specs.declared.Location.{Location}
+use Rattle.metadata.specs.declared.Location.the-variants as location
+use Rattle.metadata.specs.declared.Answer.{Answer}
+use Rattle.metadata.specs.declared.Answer.the-variants as answer
 use Rattle.metadata.specs.declared.descent.Advance.{Advance}
 use Rattle.metadata.specs.declared.descent.Advance.the-variants.{To, Done}
 use Rattle.metadata.specs.Answers.{placeOf}
 use Rattle.metadata.specs.Keys.{chunkKey}
 use Rattle.store.specs.Store.{metadata}
 use Rattle.store.specs.Memory.{RightWords}
-use Rattle.store.specs.Memory.{TellsOf, Sought}
+use Rattle.store.specs.Memory.{IsLocation, IsAnswer}
 use Rattle.store.specs.MemoryLaws.{recalled-known}
 use Rattle.store.specs.SettleLaws.{settled-tells, settled-right}
 use Rattle.metadata.specs.Descent.{foundStep, stepOf, advanceBy, advanceOf}
@@ -44,41 +44,41 @@ use Rattle.store.specs.Steps.{settledTold, settledWords}
 module _ (image : List ℕ) (newest : Chunk) where
   -- ## Locating a chunk
   module _ (q c : ℕ) where
-    pub tells-newest : c ≡ newest .id → (l : Place) → l ≡ placeOf newest → TellsOf image newest q c (told.At l 0)
-    unfolding TellsOf
+    pub tells-newest : c ≡ newest .id → (l : Place) → l ≡ placeOf newest → IsLocation image newest q c (location.At l 0)
+    unfolding IsLocation
     tells-newest e l i = (omega arith, rw i (newest-known (metadata image newest) e))
 
-    pub tells-ninth : ¬ (c ≡ newest .id) → q ≡ 0 → {r : Refusal} → r ≡ ninthQuestion → TellsOf image newest q c (told.Refused r)
-    unfolding TellsOf
+    pub tells-ninth : ¬ (c ≡ newest .id) → q ≡ 0 → {r : Refusal} → r ≡ ninthQuestion → IsLocation image newest q c (location.Refused r)
+    unfolding IsLocation
     tells-ninth other e i = rw (e, i) (ninth-refused (metadata image newest) other)
 
     module _ {ws : List ℕ} (right : RightWords image newest ws) {l : Place} {n : ℕ} (e : recalledIn ws c ≡ recalled.At l n) where
-      pub tells-few : q < n → {r : Refusal} → r ≡ ninthQuestion → TellsOf image newest q c (told.Refused r)
-      unfolding TellsOf
+      pub tells-few : q < n → {r : Refusal} → r ≡ ninthQuestion → IsLocation image newest q c (location.Refused r)
+      unfolding IsLocation
       tells-few h i = rw i (gated-shut (recalled-known image newest right c e) q h)
 
-      pub tells-recalled : n ≤ q → TellsOf image newest q c (told.At l n)
-      unfolding TellsOf
+      pub tells-recalled : n ≤ q → IsLocation image newest q c (location.At l n)
+      unfolding IsLocation
       tells-recalled h = (h, recalled-known image newest right c e)
 
   -- by the metadata's answer, and the memory after it
-  module _ (q c : ℕ) (ws : List ℕ) (f : Looked) (other : ¬ (c ≡ newest .id)) (some-left : ¬ (q ≡ 0)) (few : q ≤ 8)
+  module _ (q c : ℕ) (ws : List ℕ) (f : Answer) (other : ¬ (c ≡ newest .id)) (some-left : ¬ (q ≡ 0)) (few : q ≤ 8)
       (right : RightWords image newest ws) (bytes : List ℕ) (is : bytes ≡ chunkKey c)
-      (s : Sought image newest 0 Text (newest .root) (keyOf Text bytes) (q - 1) f) where
-    tells-by : TellsOf image newest q c (settledTold image c f)
+      (s : IsAnswer image newest 0 Text (newest .root .bits) (keyOf Text bytes) (q - 1) f) where
+    tells-by : IsLocation image newest q c (settledTold image c f)
     unfolding keyOf
     tells-by =
         let e : suc (q - 1) ≡ q = omega arith in
         rw e at (settled-tells image newest c (q - 1) other f (rw is at s))
 
-    pub tells-settled : (t : Told) (zs : List ℕ) → t ≡ settledTold image c f → zs ≡ settledWords c ws t
-        → RightWords image newest zs × TellsOf image newest q c t
+    pub tells-settled : (t : Location) (zs : List ℕ) → t ≡ settledTold image c f → zs ≡ settledWords c ws t
+        → RightWords image newest zs × IsLocation image newest q c t
     tells-settled t zs e d = (rw (d, e) (settled-right image newest c q right (omega arith) f tells-by), rw e tells-by)
 
   -- ## A descent
   module _ (map : ℕ) (kind : Kind) (root : ℕ) (k : Key) (q : ℕ) where
-    pub sought-empty : root ≡ 0 → Sought image newest map kind root k q (looked.Absent 0)
-    unfolding Sought
+    pub sought-empty : root ≡ 0 → IsAnswer image newest map kind root k q (answer.Absent 0)
+    unfolding IsAnswer
     sought-empty e =
         (omega arith, gated-zero (empty-found (metadata image newest) (λ l p. pageIn image l p map kind) root k e))
 
@@ -92,15 +92,15 @@ module _ (image : List ℕ) (newest : Chunk) where
         record { enough = omega arith; came = root-reached (metadata image newest) (λ l p. pageIn image l p map kind) root k other }
 
     pub sought-deep : {need p : ℕ} (left : ℕ) → left ≡ 0 → Came need left p → {r : Refusal} → r ≡ tooDeep
-        → Sought image newest map kind root k q (looked.Refused r)
-    unfolding Sought
+        → IsAnswer image newest map kind root k q (answer.Refused r)
+    unfolding IsAnswer
     sought-deep {p = p} zero e a i =
         rw i (depth-refused (metadata image newest) (λ l p. pageIn image l p map kind) root k p q (a .enough) (a .came))
     sought-deep (suc left) e a i = absurd (omega arith)
 
     pub sought-zero : {need : ℕ} (left p : ℕ) → 0 < left → p ≡ 0 → Came need left p → {r : Refusal} → r ≡ outOfPlace
-        → Sought image newest map kind root k q (looked.Refused r)
-    unfolding Sought
+        → IsAnswer image newest map kind root k q (answer.Refused r)
+    unfolding IsAnswer
     sought-zero zero p h e a i = absurd (omega arith)
     sought-zero (suc left) p h e a i =
         rw i (descent-refused (metadata image newest) (λ l p. pageIn image l p map kind) root k p left (a .came) q (a .enough)
@@ -108,19 +108,19 @@ module _ (image : List ℕ) (newest : Chunk) where
 
     abbrev Advanced : ℕ → Advance → Type 0
     Advanced left (To p need) = Came need left (p .bits)
-    Advanced left (Done r) = Sought image newest map kind root k q r
+    Advanced left (Done r) = IsAnswer image newest map kind root k q r
 
     module _ {need left p : ℕ} (other : ¬ (p ≡ 0)) (a : Came need (suc left) p) where
       refused-advanced : (r : Refusal) → readWith (metadata image newest) (λ l p. pageIn image l p map kind) q p ≡ refuse r
-          → Advanced left (Done (looked.Refused r))
-      unfolding Sought
+          → Advanced left (Done (answer.Refused r))
+      unfolding IsAnswer
       refused-advanced r e =
           descent-refused (metadata image newest) (λ l p. pageIn image l p map kind) root k p left (a .came) q (a .enough) e
 
       module _ (l : Place) (n : ℕ) (h : n ≤ q) (d : Known (metadata image newest) (chunkOf p) l n) where
         leaf-advanced : (es : List (Key × Entry)) → pageIn image l p map kind ≡ ok (leaf es)
             → Advanced left (advanceBy (max need n) (foundStep (findIn compareKeys k es)))
-        unfolding Sought
+        unfolding IsAnswer
         leaf-advanced es i = go (findIn compareKeys k es) refl
           where
             found : Gated (max need n) (askedIn (metadata image newest) (λ l p. pageIn image l p map kind) root k)
@@ -143,14 +143,14 @@ module _ (image : List ℕ) (newest : Chunk) where
               came = child-reached (metadata image newest) (λ l p. pageIn image l p map kind) root k p left (a .came) other d i;
             }
 
-      told-advanced : (l : Told) → TellsOf image newest q (chunkOf p) l
+      told-advanced : (l : Location) → IsLocation image newest q (chunkOf p) l
           → Advanced left (advanceOf (λ x. stepOf k (pageIn image x p map kind)) need l)
-      unfolding TellsOf advanceOf
-      told-advanced (told.Refused r) t =
+      unfolding IsLocation advanceOf
+      told-advanced (location.Refused r) t =
           refused-advanced r (page-refused (metadata image newest) (λ l p. pageIn image l p map kind) other q t)
-      told-advanced (told.At l n) (h, d) = page-advanced l n h d (pageIn image l p map kind) refl
+      told-advanced (location.At l n) (h, d) = page-advanced l n h d (pageIn image l p map kind) refl
 
-    advanced : (need left p : ℕ) → 0 < left → ¬ (p ≡ 0) → Came need left p → (l : Told) → TellsOf image newest q (chunkOf p) l
+    advanced : (need left p : ℕ) → 0 < left → ¬ (p ≡ 0) → Came need left p → (l : Location) → IsLocation image newest q (chunkOf p) l
         → Advanced (left - 1) (advanceOf (λ x. stepOf k (pageIn image x p map kind)) need l)
     advanced need zero p h other a l t = absurd (omega arith)
     advanced need (suc left) p h other a l t =
@@ -158,13 +158,13 @@ module _ (image : List ℕ) (newest : Chunk) where
         rw e at (told-advanced other a l t)
 
     -- in the code's terms
-    module _ (need left p c : ℕ) (l : Told) (x : Advance) (h : 0 < left) (other : ¬ (p ≡ 0)) (a : Came need left p) (chunk : c ≡ chunkOf p)
-        (t : TellsOf image newest q c l) (is : x ≡ advanceOf (λ x. stepOf k (pageIn image x p map kind)) need l) where
+    module _ (need left p c : ℕ) (l : Location) (x : Advance) (h : 0 < left) (other : ¬ (p ≡ 0)) (a : Came need left p) (chunk : c ≡ chunkOf p)
+        (t : IsLocation image newest q c l) (is : x ≡ advanceOf (λ x. stepOf k (pageIn image x p map kind)) need l) where
       on : Advanced (left - 1) x
       on = rw is (advanced need left p h other a l (rw chunk at t))
 
       pub came-on : {position : Position} {n : ℕ} → x ≡ To position n → Came n (left - 1) (position .bits)
       came-on e = rw e at on
 
-      pub sought-done : {r : Looked} → x ≡ Done r → Sought image newest map kind root k q r
+      pub sought-done : {r : Answer} → x ≡ Done r → IsAnswer image newest map kind root k q r
       sought-done e = rw e at on

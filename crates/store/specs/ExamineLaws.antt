@@ -3,9 +3,10 @@
 --
 --   examined-at ..       what the examination from the page at p down hands back
 --   lying, below         of an inner page: the test of its separators, and the examination of its children
+--   Under b              of an inner page whose children are to be examined: nothing of it is missing, and they say what it is
 use Prim.Native.Nat.{ℕ, zero, suc, _+_, _-_}
-use mathlib.Core.Path.{_≡_, refl, _∙_, ap}
-use mathlib.Core.Bool.{Bool, true, false, _&&_}
+use mathlib.Core.Path.{_≡_, refl, sym, _∙_, ap}
+use mathlib.Core.Bool.{Bool, true, false, cond, _&&_, true≢false}
 use mathlib.Core.List.{List}
 use mathlib.Core.Option.{none}
 use native.Mathlib.Numerals.{add-one, sub-one}
@@ -34,18 +35,24 @@ use Rattle.metadata.specs.declared.Root.the-variants as root
 use Rattle.metadata.specs.Answers.{rootSaid}
 use Rattle.soundness.specs.declared.Examined.{Examined}
 use Rattle.soundness.specs.declared.Examined.the-variants as examined
-use Rattle.soundness.specs.Examining.{examinedOf, leafOf}
+use Rattle.soundness.specs.declared.Inner.{Inner}
+use Rattle.soundness.specs.declared.Part.{Part}
+use Rattle.soundness.specs.declared.Part.the-variants as part
+use Rattle.soundness.specs.Examining.{examinedOf, leafOf, partOf}
 use Rattle.soundness.specs.LeafLaws.{leaf-law}
 use Rattle.store.specs.Store.{reader, mapRoot}
 use Rattle.store.specs.Asking.{judgedBy}
 use Rattle.store.specs.ReadLaws.{reader-judged, judged-all}
-use Rattle.store.specs.Examining.{examineIn, overChildren}
+use Rattle.store.specs.Examining.{examineIn, overChildren, WholePage}
 
 -- ## An inner page
 over-examined : (o : Outcome Report) → overChildren (examinedOf o) ≡ examinedOf (bind o (λ a. ok (over a)))
 unfolding examinedOf overChildren
 over-examined (ok a) = rw (add-one (a .pages), add-one (a .depth))
 over-examined (refuse r) = refl
+
+done-is : {x y : Examined} → part.Done x ≡ part.Done y → y ≡ x
+done-is e = cc
 
 -- ## By the page's judgement
 module _ (image : List ℕ) (newest : Chunk) (m : ℕ) (kind : Kind) where
@@ -73,7 +80,7 @@ module _ (image : List ℕ) (newest : Chunk) (m : ℕ) (kind : Kind) where
 
     -- the page is judged to be j
     module _ (some-left : ¬ (levels ≡ 0)) {j : Judged} (is : j ≡ judgedBy image newest m kind p) where
-      pub examined-refused : {r : Refusal} → j ≡ judged.Refused r → examined.Refused r ≡ examined-at levels top lo hi p
+      examined-refused : {r : Refusal} → j ≡ judged.Refused r → examined.Refused r ≡ examined-at levels top lo hi p
       unfolding examinedOf pageOf
       examined-refused e = rw e at (at-page some-left is)
 
@@ -87,22 +94,29 @@ module _ (image : List ℕ) (newest : Chunk) (m : ℕ) (kind : Kind) where
         unfolding pageOf
         leaf-read = rw k at (at-page some-left is)
 
-        pub examined-leaf : leafOf image kind n keys e lo hi top ≡ examined-at levels top lo hi p
+        examined-leaf : leafOf image kind n keys e lo hi top ≡ examined-at levels top lo hi p
         unfolding leafOf
         examined-leaf =
             let w : LeafWhole (take e image) kind n keys values = rw k at whole in
             leaf-law top (boundKey image kind lo) (boundKey image kind hi) (entriesIn (take e image) kind n keys values) (keys-whole w)
             (w .all-entries) (keys-test key-order _ _ _) ∙ leaf-read
 
+      -- an inner page whose children are to be examined: nothing of it is missing, and they say what it is
+      pub record Under (b : Inner) : Type 0 where
+        pub all : WholePage image kind b
+        pub children : overChildren (examinedOf (examineChildren (examine compareKeys (reader image newest m kind) (levels - 1) false)
+            (boundKey image kind lo) (boundKey image kind hi)
+            (childrenIn (take (b .end) image) kind (b .n) (b .positions) (b .counts) (b .keys)))) ≡ examined-at levels top lo hi p
+
       module _ {n positions counts keys e total : ℕ} (k : j ≡ judged.Inner n positions counts keys e total) where
-        pub inner-stands : InnerWhole (take e image) kind n positions counts keys total
+        inner-stands : InnerWhole (take e image) kind n positions counts keys total
         inner-stands = rw k at whole
 
         -- the test of its separators, and the examination of its children
-        abbrev pub lying : Bool
+        abbrev lying : Bool
         lying = separatorsTest compareKeys (boundKey image kind lo) (boundKey image kind hi) (keysIn (take e image) kind n keys)
 
-        abbrev pub below : Outcome Report
+        abbrev below : Outcome Report
         below =
             examineChildren (examine compareKeys (reader image newest m kind) (levels - 1) false) (boundKey image kind lo)
             (boundKey image kind hi) (childrenIn (take e image) kind n positions counts keys)
@@ -118,13 +132,48 @@ module _ (image : List ℕ) (newest : Chunk) (m : ℕ) (kind : Kind) where
             let h = rw k at (at-page some-left is) in
             rw (all, lie, q) at h
 
-        pub examined-unsound : lying ≡ false → {r : Refusal} → r ≡ unsound → examined.Refused r ≡ examined-at levels top lo hi p
+        examined-unsound : lying ≡ false → {r : Refusal} → r ≡ unsound → examined.Refused r ≡ examined-at levels top lo hi p
         unfolding examinedOf
         examined-unsound q i = rw i (inner-read false q)
 
-        pub examined-inner : lying ≡ true
+        examined-inner : lying ≡ true
             → overChildren (examinedOf below) ≡ examined-at levels top lo hi p
         examined-inner q = over-examined _ ∙ inner-read true q
+
+        abbrev parted : Bool → Part
+        parted t =
+            cond t (part.Children (record { n = n; positions = positions; counts = counts; keys = keys; end = e }))
+            (part.Done (examined.Refused unsound))
+
+        inner-done : {x : Examined} (t : Bool) → lying ≡ t → parted t ≡ part.Done x → x ≡ examined-at levels top lo hi p
+        inner-done true q d = absurd (true≢false cc)
+        inner-done false q d = done-is d ∙ examined-unsound q refl
+
+        inner-under : {b : Inner} (t : Bool) → lying ≡ t → parted t ≡ part.Children b → Under b
+        inner-under {b} true q d =
+            let same : b ≡ record { n = n; positions = positions; counts = counts; keys = keys; end = e } = cc in
+            rw same (record { all = (total, inner-stands); children = examined-inner q })
+        inner-under false q d = absurd (true≢false cc)
+
+      -- by what it says by itself
+      by-itself : {x : Examined} (i : Judged) → j ≡ i → partOf image kind lo hi top i ≡ part.Done x → x ≡ examined-at levels top lo hi p
+      unfolding partOf
+      by-itself (judged.Refused r) k e = done-is e ∙ examined-refused k
+      by-itself (judged.Leaf n keys values f) k e = done-is e ∙ examined-leaf k
+      by-itself (judged.Inner n positions counts keys f total) k e = inner-done k (lying k) refl e
+
+      by-children : {b : Inner} (i : Judged) → j ≡ i → partOf image kind lo hi top i ≡ part.Children b → Under b
+      unfolding partOf
+      by-children (judged.Refused r) k e = absurd (true≢false cc)
+      by-children (judged.Leaf n keys values f) k e = absurd (true≢false cc)
+      by-children (judged.Inner n positions counts keys f total) k e = inner-under k (lying k) refl e
+
+      module _ {y : Part} (said : y ≡ partOf image kind lo hi top j) where
+        pub page-done : {x : Examined} → y ≡ part.Done x → x ≡ examined-at levels top lo hi p
+        page-done e = by-itself j refl (sym said ∙ e)
+
+        pub page-under : {b : Inner} → y ≡ part.Children b → Under b
+        page-under e = by-children j refl (sym said ∙ e)
 
 -- ## A map
 module _ (image : List ℕ) (newest : Chunk) (m : ℕ) (kind : Kind) (r : Root) (is : rootSaid r ≡ mapRoot image newest m) where

@@ -13,6 +13,7 @@ pub mod ReaderLaws
 pub mod ReadLaws
 pub mod AskLaws
 pub mod WalkReadLaws
+pub mod WayLaws
 pub mod WalkStepLaws
 pub mod WalkedLaws
 pub mod ExamineLaws

@@ -1,21 +1,16 @@
 -- Laws of the memory: what is right of an empty one, of what is recalled, and of the words with a chunk more.
 use Prim.Native.Nat.{ℕ, _^_, _<_}
 use mathlib.Core.Path.{_≡_}
-use mathlib.Core.Bool.{true}
 use mathlib.Core.List.{List}
-use native.Mathlib.Omega.{arith}
-use borrow.Author.Tests.{ltb-true}
 use lib.ListN.{replicate}
 use Rattle.locating.specs.Known.{Known}
 use Rattle.opening.specs.declared.chunk.Chunk.{Chunk}
 use Rattle.page.specs.declared.Place.{Place}
-use Rattle.memory.specs.declared.Recalled.{Recalled}
-use Rattle.memory.specs.declared.Recalled.the-variants.{At, Free, Full}
+use Rattle.memory.specs.declared.Recalled.the-variants.{At}
 use Rattle.memory.specs.Words.{recalledIn, rememberedIn}
 use Rattle.memory.specs.WordsLaws.{empty-holds, recalled-holds, remembered-holds}
 use Rattle.store.specs.Store.{metadata}
 use Rattle.store.specs.Memory.{RightWords}
-use Rattle.store.specs.Steps.{crowded}
 
 pub empty-right : (image : List ℕ) (newest : Chunk) (n : ℕ) → RightWords image newest (replicate n 0)
 empty-right image newest n = record { known = empty-holds (Known (metadata image newest)) n }
@@ -28,10 +23,3 @@ module _ (image : List ℕ) (newest : Chunk) {ws : List ℕ} (right : RightWords
       Known (metadata image newest) c l need → RightWords image newest (rememberedIn ws c l need)
   remembered-right l need b f few known =
       record { known = remembered-holds (Known (metadata image newest)) c l need b f few ws (right .known) known }
-
--- words that are crowded are few
-pub crowded-few : (r : Recalled) (n : ℕ) → crowded r n ≡ true → n < 8192
-unfolding crowded
-crowded-few (At l need) n e = absurd (let z : _≡_ {A = ℕ} 0 1 = cc in omega arith)
-crowded-few (Free i) n e = absurd (let z : _≡_ {A = ℕ} 0 1 = cc in omega arith)
-crowded-few Full n e = ltb-true n 8192 e

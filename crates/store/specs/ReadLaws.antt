@@ -16,12 +16,12 @@ use Rattle.page.specs.declared.Judged.the-variants as judged
 use Rattle.page.specs.Judged.{judgedAt}
 use Rattle.content.specs.Content.{pageOf, pageIn}
 use Rattle.content.specs.WholeLaws.{Whole, judged-whole}
-use Rattle.metadata.specs.declared.Told.{Told}
-use Rattle.metadata.specs.declared.Told.the-variants as told
+use Rattle.metadata.specs.declared.Location.{Location}
+use Rattle.metadata.specs.declared.Location.the-variants as location
 use Rattle.metadata.specs.Answers.{placeSaid, locatedBy}
 use Rattle.store.specs.Store.{chunkAt, reader}
 use Rattle.store.specs.Asking.{judgedIn, judgedBy}
-use Rattle.store.specs.Memory.{TellsOf}
+use Rattle.store.specs.Memory.{IsLocation}
 use Rattle.store.specs.AnswerLaws.{place-told}
 
 module _ (image : List ℕ) (newest : Chunk) (map : ℕ) (kind : Kind) (p : ℕ) where
@@ -35,15 +35,15 @@ module _ (image : List ℕ) (newest : Chunk) (map : ℕ) (kind : Kind) (p : ℕ)
   unfolding judgedBy
   judged-chunk other e = rw (ne-eqb p 0 other, e)
 
-  module _ (other : ¬ (p ≡ 0)) {c : ℕ} (t : Told) (e : c ≡ chunkOf p) (tells : TellsOf image newest 8 c t) where
+  module _ (other : ¬ (p ≡ 0)) {c : ℕ} (t : Location) (e : c ≡ chunkOf p) (tells : IsLocation image newest 8 c t) where
     judged-told : judgedIn (λ l. judgedAt image l p map kind) (placeSaid (locatedBy t)) ≡ judgedBy image newest map kind p
     judged-told = judged-chunk other (place-told image newest c t tells ∙ ap (chunkAt image newest 8) e)
 
-    pub judged-there : {l : Place} {n : ℕ} → t ≡ told.At l n → judgedAt image l p map kind ≡ judgedBy image newest map kind p
+    pub judged-there : {l : Place} {n : ℕ} → t ≡ location.At l n → judgedAt image l p map kind ≡ judgedBy image newest map kind p
     unfolding locatedBy
     judged-there i = rw i at judged-told
 
-    pub judged-nowhere : {r : Refusal} → t ≡ told.Refused r → judged.Refused r ≡ judgedBy image newest map kind p
+    pub judged-nowhere : {r : Refusal} → t ≡ location.Refused r → judged.Refused r ≡ judgedBy image newest map kind p
     unfolding locatedBy
     judged-nowhere i = rw i at judged-told
 

@@ -21,7 +21,7 @@ use Rattle.key.specs.declared.Kind.the-variants.{Text}
 use Rattle.key.specs.Key.{Key, text, compareKeys}
 use Rattle.tree.specs.Page.{branch, Page}
 use Rattle.tree.specs.Asking.{mapLookup}
-use Rattle.locating.specs.Locating.{Metadata, located}
+use Rattle.locating.specs.Locating.{Metadata, readAt, located}
 use Rattle.opening.specs.declared.chunk.Chunk.{Chunk}
 use Rattle.page.specs.declared.Place.{Place}
 use Rattle.content.specs.Content.{Entry, pageIn}
@@ -42,7 +42,7 @@ metadata image newest =
       compare = compareKeys;
       newest = newest .id;
       newestAt = placeOf newest;
-      root = newest .root;
+      root = newest .root .bits;
       chunkOf = chunkOf;
       keyOf = λ n. text (chunkKey n);
       standing = λ n e. placedAt (standingBy image n (e .value));
@@ -55,21 +55,21 @@ chunkAt image newest q n = located (metadata image newest) q n
 -- "A page judges in this order: depth, child position 0, location, place, check, then the fields": the depth is judged by the descent
 unfoldable pub reader : List ℕ → Chunk → ℕ → Kind → ℕ → Outcome (Page Key Entry)
 reader image newest map kind p =
-    branch (eqb p 0) (refuse outOfPlace) (bind (chunkAt image newest 8 (chunkOf p)) (λ c. pageIn image c p map kind))
+    readAt chunkOf (chunkAt image newest 8) (λ l q. pageIn image l q map kind) p
 
 abbrev pub pagesOf : List ℕ → Map → ℕ → Outcome (Page Key Entry)
 pagesOf image m = reader image (m .newest) (m .id) (m .kind)
 
 -- ## A map's id and root
 unfoldable pub metaValue : List ℕ → Chunk → List ℕ → Outcome (Option Entry)
-metaValue image newest key = mapLookup compareKeys (reader image newest 0 Text) (text key) (newest .root)
+metaValue image newest key = mapLookup compareKeys (reader image newest 0 Text) (text key) (newest .root .bits)
 
 unfoldable pub mapId : List ℕ → Chunk → List ℕ → Outcome ℕ
 mapId image newest name = bind (metaValue image newest (nameKey name)) (namedId image)
 
 unfoldable pub mapRoot : List ℕ → Chunk → ℕ → Outcome ℕ
 mapRoot image newest map =
-    branch (eqb map 0) (ok (newest .root)) (bind (metaValue image newest (rootKey map)) (namedRoot image))
+    branch (eqb map 0) (ok (newest .root .bits)) (bind (metaValue image newest (rootKey map)) (namedRoot image))
 
 -- "map name not 1 to 1,000 bytes of 32 to 126" is refusal 1
 unfoldable pub namedMap : List ℕ → Chunk → List ℕ → Outcome ℕ

@@ -5,7 +5,7 @@
 --   PassedChild      a child that passed, and the figures with its own
 use Prim.Native.Nat.{ℕ, _+_, _*_, _^_, _≤_, _<_, max}
 use mathlib.Core.Path.{_≡_, refl, sym, ap}
-use mathlib.Core.Bool.{Bool, true, false, cond}
+use mathlib.Core.Bool.{Bool, true, false, cond, true≢false}
 use native.Mathlib.Nat.{mul-le-mul-right}
 use native.Mathlib.Omega.{arith}
 use borrow.Author.Tests.{eq-eqb, ne-eqb, eqb-true}
@@ -51,7 +51,7 @@ module _ (r : Figures) (c : ℕ) where
           → cond t (examined.Passed (record { entries = r .entries + a .entries; pages = r .pages + a .pages; depth = max (r .depth) (a .depth) }))
           (examined.Refused unsound) ≡ examined.Refused y
           → examined.Refused y ≡ examinedOf (bind (branch t (ok a) (refuse unsound)) f)
-      go true q = absurd (let z : _≡_ {A = ℕ} 0 1 = cc in omega arith)
+      go true q = absurd (true≢false cc)
       go false q = sym q
 
   -- a child that passed, and the figures with its own
@@ -64,7 +64,7 @@ module _ (r : Figures) (c : ℕ) where
 
   pub tally-passed : (o : Outcome Report) {z : Figures} → tallied r c (examinedOf o) ≡ examined.Passed z → PassedChild o z
   unfolding tallied examinedOf
-  tally-passed (refuse x) e = absurd (let z : _≡_ {A = ℕ} 0 1 = cc in omega arith)
+  tally-passed (refuse x) e = absurd (true≢false cc)
   tally-passed (ok a) {z} e = go (eqb (a .entries) c) refl e
     where
       go : (t : Bool) → eqb (a .entries) c ≡ t
@@ -75,7 +75,7 @@ module _ (r : Figures) (c : ℕ) where
           let sum : Figures = record { entries = r .entries + a .entries; pages = r .pages + a .pages; depth = max (r .depth) (a .depth) } in
           let s : sum ≡ z = cc in
           record { report = a; passed = refl; tested = rw q; same = eqb-true (a .entries) c q; sum = sym (ap reported s) }
-      go false q h = absurd (let z : _≡_ {A = ℕ} 0 1 = cc in omega arith)
+      go false q h = absurd (true≢false cc)
 
 -- ## Figures that can be added
 pub fits-passed : (r : Figures) {x : Examined} {a : Figures} → Fits r x → x ≡ examined.Passed a

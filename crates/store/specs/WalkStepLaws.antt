@@ -1,10 +1,12 @@
 -- Laws of a step of the walk, one for each way that the code takes.
 use Prim.Native.Nat.{ℕ, suc, _+_, _-_, _≤_, _<_}
 use mathlib.Core.Path.{_≡_, refl, sym, _∙_, ap}
-use mathlib.Core.Bool.{true, false}
+use mathlib.Core.Bool.{Bool, true, false, cond}
 use mathlib.Core.List.{List, [], _∷_, _++_, append-nil}
 use native.Mathlib.Numerals.{add-one}
 use native.Mathlib.Omega.{arith}
+use borrow.Author.Tests.{eqb-true, eqb-false}
+use lib.Dec.{eqb}
 use lib.ListN.{length, take, replicate}
 use lib.Seq.{length-take-le, take-take}
 use Rattle.refusal.specs.declared.Refusal.{Refusal}
@@ -27,11 +29,11 @@ use Rattle.cursor.specs.declared.follow.Down.the-variants as down
 use Rattle.cursor.specs.declared.follow.Leftmost.{Leftmost}
 use Rattle.cursor.specs.declared.follow.Leftmost.the-variants as leftmost
 use Rattle.cursor.specs.Walk.{formed, numbers, leading, closed, doneNumber, settled, movedBy}
-use Rattle.cursor.specs.Steps.{placed, leftStep}
+use Rattle.cursor.specs.Steps.{emptyStep, placed, leftStep}
 use Rattle.cursor.specs.StateLaws.{leading-placed, settled-prefixed}
 use Rattle.store.specs.Store.{reader, mapRoot}
 use Rattle.store.specs.Walk.{stepIn}
-use Rattle.store.specs.WalkWays.{CameLeft, CameDown}
+use Rattle.store.specs.WalkWays.{EndsLeft, EndsDown}
 
 -- ## A step from a state that is formed, or not
 module _ (image : List ℕ) (newest : Chunk) (map : ℕ) (kind : Kind) (root : ℕ) (w : Walk) where
@@ -58,25 +60,30 @@ module _ (image : List ℕ) (newest : Chunk) (map : ℕ) (kind : Kind) (root : �
     unfolding settled
     step-stop m e = e ∙ step-by m
 
-    pub step-empty : w .depth ≡ 0 → root ≡ 0 → {x : Stepped} → x ≡ record { walk = closed w doneNumber; got = yields.Done }
+    -- in an empty map
+    pub step-empty : w .depth ≤ length (w .places) → root ≡ 0 → {x : Stepped} → x ≡ emptyStep w
         → x ≡ settled w (movedBy (reader image newest map kind) root (numbers w))
-    step-empty d z e = step-over (rw (d, z) (map-empty (reader image newest map kind))) e
+    unfolding emptyStep
+    step-empty few z e = e ∙ go (eqb (w .depth) 0) refl
+      where
+        len : length (take (w .depth) (w .places)) ≡ w .depth
+        len = length-take-le (w .depth) (w .places) few
 
-    pub step-no-map : (w .depth ≡ 0 → ⊥) → w .depth ≤ length (w .places) → root ≡ 0 → {r : Refusal} → r ≡ unsound → {x : Stepped}
-        → x ≡ record { walk = closed w (r .number); got = yields.Refused r }
-        → x ≡ settled w (movedBy (reader image newest map kind) root (numbers w))
-    step-no-map d few z {r} i e =
-        let len : length (take (w .depth) (w .places)) ≡ w .depth = length-take-le (w .depth) (w .places) few in
-        step-stop {r = r}
-        (rw z (map-empty-numbers (reader image newest map kind) (take (w .depth) (w .places)) (omega (arith, len, d))) ∙ ap stop (sym i)) e
+        go : (t : Bool) → eqb (w .depth) 0 ≡ t
+            → cond t (record { walk = closed w doneNumber; got = yields.Done }) (record { walk = closed w (unsound .number); got = yields.Refused unsound })
+            ≡ settled w (movedBy (reader image newest map kind) root (numbers w))
+        go true q = step-over (rw (eqb-true (w .depth) 0 q, z) (map-empty (reader image newest map kind))) refl
+        go false q =
+            step-stop {r = unsound}
+            (rw z (map-empty-numbers (reader image newest map kind) (take (w .depth) (w .places)) (omega (arith, len, eqb-false (w .depth) 0 q)))) refl
 
     -- to the leftmost entry under the page that the numbers pre lead to
     step-left : (l n p : ℕ) (pre : List ℕ) (m : Leftmost)
         → mapNext (reader image newest map kind) (take (w .depth) (w .places)) root ≡ leftmostAt (reader image newest map kind) pre 0 p
-        → CameLeft image newest map kind (length pre) p m
+        → EndsLeft image newest map kind (length pre) p m
         → ((k depth : ℕ) → suc (length pre + k) ≡ depth → depth ≤ 16 → leading ((pre ++ replicate k 0) ++ (0 ∷ [])) ≡ placed (w .places) l n depth)
         → leftStep w l n m ≡ settled w (movedBy (reader image newest map kind) root (numbers w))
-    unfolding leftStep CameLeft settled
+    unfolding leftStep EndsLeft settled
     step-left l n p pre (leftmost.Entry depth key size at len) e c lead =
         let k = depth - 1 - length pre in
         let there : leading ((pre ++ replicate k 0) ++ (0 ∷ [])) ≡ placed (w .places) l n depth = lead k depth (omega (arith, c .2)) (c .3) in
@@ -85,7 +92,7 @@ module _ (image : List ℕ) (newest : Chunk) (map : ℕ) (kind : Kind) (root : �
     step-left l n p pre leftmost.Over e c lead = step-by (e ∙ c pre refl)
     step-left l n p pre (leftmost.Refused r) e c lead = step-by (e ∙ c pre refl)
 
-    pub step-first : w .depth ≡ 0 → 0 < root → (m : Leftmost) → CameLeft image newest map kind 0 root m → {x : Stepped} → x ≡ leftStep w 0 0 m
+    pub step-first : w .depth ≡ 0 → 0 < root → (m : Leftmost) → EndsLeft image newest map kind 0 root m → {x : Stepped} → x ≡ leftStep w 0 0 m
         → x ≡ settled w (movedBy (reader image newest map kind) root (numbers w))
     step-first d filled m c e = e
         ∙ step-left 0 0 root [] m (rw d (map-first (reader image newest map kind) root filled)) c
@@ -93,10 +100,10 @@ module _ (image : List ℕ) (newest : Chunk) (map : ℕ) (kind : Kind) (root : �
 
     module _ (few : w .depth ≤ length (w .places)) where
       step-entry-at : (l n key size at len : ℕ)
-          → CameDown image newest map kind (take (w .depth) (w .places)) root (down.Entry l n key size at len) → w .depth ≤ 16
+          → EndsDown image newest map kind (take (w .depth) (w .places)) root (down.Entry l n key size at len) → w .depth ≤ 16
           → {x : Walk} → x ≡ placed (w .places) l n (w .depth)
           → record { walk = x; got = yields.Entry key size at len } ≡ settled w (movedBy (reader image newest map kind) root (numbers w))
-      unfolding CameDown
+      unfolding EndsDown
       step-entry-at l n key size at len c most {x} e =
           let nums = take (w .depth) (w .places) in
           let long : length nums ≡ w .depth = length-take-le (w .depth) (w .places) few in
@@ -105,10 +112,10 @@ module _ (image : List ℕ) (newest : Chunk) (map : ℕ) (kind : Kind) (root : �
           (leading-placed w l n 0 (w .depth) (omega (arith, long, c .2)) (omega (arith, long, c .2)) most) in
           (λ j. record { walk = (e ∙ sym there) j; got = sym (c .1) j }) ∙ sym (settled-prefixed w (take l nums) (c .0) n) ∙ step-by (c .4)
 
-      step-on-at : (l n : ℕ) (p : Position) → CameDown image newest map kind (take (w .depth) (w .places)) root (down.Left l n p) → (m : Leftmost)
-          → CameLeft image newest map kind (l + 1) (p .bits) m → {x : Stepped} → x ≡ leftStep w l n m
+      step-on-at : (l n : ℕ) (p : Position) → EndsDown image newest map kind (take (w .depth) (w .places)) root (down.Left l n p) → (m : Leftmost)
+          → EndsLeft image newest map kind (l + 1) (p .bits) m → {x : Stepped} → x ≡ leftStep w l n m
           → x ≡ settled w (movedBy (reader image newest map kind) root (numbers w))
-      unfolding CameDown
+      unfolding EndsDown
       step-on-at l n p c m left e =
           let nums = take (w .depth) (w .places) in
           let len : length nums ≡ w .depth = length-take-le (w .depth) (w .places) few in
@@ -119,33 +126,33 @@ module _ (image : List ℕ) (newest : Chunk) (map : ℕ) (kind : Kind) (root : �
           (λ k depth s most. ap leading (zeros-more (raised nums l) k ∙ ap (_++ replicate (suc k) 0) head)
           ∙ leading-placed w l n (suc k) depth (omega arith) (omega (arith, s, long)) most)
 
-      module _ {d : Down} (c : CameDown image newest map kind (take (w .depth) (w .places)) root d) where
+      module _ {d : Down} (c : EndsDown image newest map kind (take (w .depth) (w .places)) root d) where
         pub step-entry : {l n key size at len : ℕ} → d ≡ down.Entry l n key size at len → w .depth ≤ 16
             → {x : Walk} → x ≡ placed (w .places) l n (w .depth)
             → record { walk = x; got = yields.Entry key size at len } ≡ settled w (movedBy (reader image newest map kind) root (numbers w))
         step-entry {l} {n} {key} {size} {at} {len} i most e = step-entry-at l n key size at len (rw i at c) most e
 
-        pub step-on : {l n : ℕ} {p : Position} → d ≡ down.Left l n p → (m : Leftmost) → CameLeft image newest map kind (l + 1) (p .bits) m
+        pub step-on : {l n : ℕ} {p : Position} → d ≡ down.Left l n p → (m : Leftmost) → EndsLeft image newest map kind (l + 1) (p .bits) m
             → {x : Stepped} → x ≡ leftStep w l n m
             → x ≡ settled w (movedBy (reader image newest map kind) root (numbers w))
         step-on {l} {n} {p} i m left e = step-on-at l n p (rw i at c) m left e
 
         pub step-done : d ≡ down.Over → {x : Stepped} → x ≡ record { walk = closed w doneNumber; got = yields.Done }
             → x ≡ settled w (movedBy (reader image newest map kind) root (numbers w))
-        unfolding CameDown
+        unfolding EndsDown
         step-done i e = step-over (rw i at c) e
 
         pub step-refused : {r : Refusal} → d ≡ down.Refused r → {x : Stepped}
             → x ≡ record { walk = closed w (r .number); got = yields.Refused r }
             → x ≡ settled w (movedBy (reader image newest map kind) root (numbers w))
-        unfolding CameDown
+        unfolding EndsDown
         step-refused {r} i e = step-stop {r = r} (rw i at c) e
 
         -- the level is one of the numbers'
         pub left-low : {l n : ℕ} {p : Position} → d ≡ down.Left l n p → l < w .depth
-        unfolding CameDown
+        unfolding EndsDown
         left-low {l} {n} {p} i =
-            let t : CameDown image newest map kind (take (w .depth) (w .places)) root (down.Left l n p) = rw i at c in
+            let t : EndsDown image newest map kind (take (w .depth) (w .places)) root (down.Left l n p) = rw i at c in
             omega (arith, t .0, length-take-le (w .depth) (w .places) few)
 
 -- ## A step of the map that has an id

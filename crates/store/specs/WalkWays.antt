@@ -1,7 +1,7 @@
 -- Where the walk's two ways down end, and what that says of the walk: the private contracts of `down_by` and `leftmost_from`.
 --
---   CameLeft .. level p m     m is the leftmost entry under the page at p, which `level` numbers lead to
---   CameDown .. nums root d   d is where the way down from the root by the numbers nums ends
+--   EndsLeft .. level p m     m is the leftmost entry under the page at p, which `level` numbers lead to
+--   EndsDown .. nums root d   d is where the way down from the root by the numbers nums ends
 use Prim.Native.Nat.{ℕ, suc, _+_, _-_, _≤_, _<_}
 use mathlib.Core.Path.{_≡_}
 use mathlib.Core.List.{List, [], _++_}
@@ -22,20 +22,20 @@ use Rattle.store.specs.Store.{reader}
 
 module _ (image : List ℕ) (newest : Chunk) (map : ℕ) (kind : Kind) where
   -- whatever the numbers before are
-  unfoldable pub CameLeft : ℕ → ℕ → Leftmost → Type 0
-  CameLeft level p (leftmost.Entry depth key size at len) =
+  unfoldable pub EndsLeft : ℕ → ℕ → Leftmost → Type 0
+  EndsLeft level p (leftmost.Entry depth key size at len) =
       (e : Key × Entry) × (yieldOf e ≡ yields.Entry key size at len) × (level < depth) × (depth ≤ 16) ×
       ((pre : List ℕ) → length pre ≡ level
       → leftmostAt (reader image newest map kind) pre 0 p ≡ prefixed (pre ++ replicate (depth - 1 - level) 0) e 0 [])
-  CameLeft level p leftmost.Over = (pre : List ℕ) → length pre ≡ level → leftmostAt (reader image newest map kind) pre 0 p ≡ over
-  CameLeft level p (leftmost.Refused r) = (pre : List ℕ) → length pre ≡ level → leftmostAt (reader image newest map kind) pre 0 p ≡ stop r
+  EndsLeft level p leftmost.Over = (pre : List ℕ) → length pre ≡ level → leftmostAt (reader image newest map kind) pre 0 p ≡ over
+  EndsLeft level p (leftmost.Refused r) = (pre : List ℕ) → length pre ≡ level → leftmostAt (reader image newest map kind) pre 0 p ≡ stop r
 
-  unfoldable pub CameDown : List ℕ → ℕ → Down → Type 0
-  CameDown nums root (down.Entry level number key size at len) =
+  unfoldable pub EndsDown : List ℕ → ℕ → Down → Type 0
+  EndsDown nums root (down.Entry level number key size at len) =
       (e : Key × Entry) × (yieldOf e ≡ yields.Entry key size at len) × (suc level ≡ length nums) × (number ≡ suc (getD nums level 0)) ×
       (mapNext (reader image newest map kind) nums root ≡ prefixed (take level nums) e number [])
-  CameDown nums root (down.Left level number position) =
+  EndsDown nums root (down.Left level number position) =
       (level < length nums) × (number ≡ suc (getD nums level 0)) ×
       (mapNext (reader image newest map kind) nums root ≡ leftmostAt (reader image newest map kind) (raised nums level) 0 (position .bits))
-  CameDown nums root down.Over = mapNext (reader image newest map kind) nums root ≡ over
-  CameDown nums root (down.Refused r) = mapNext (reader image newest map kind) nums root ≡ stop r
+  EndsDown nums root down.Over = mapNext (reader image newest map kind) nums root ≡ over
+  EndsDown nums root (down.Refused r) = mapNext (reader image newest map kind) nums root ≡ stop r

@@ -7,7 +7,9 @@ use super::fetch::fetch_from;
 use super::locate::descend;
 use super::read::read_page;
 use super::read::root_at;
+use super::room::SMALL;
 use super::room::few_words;
+use super::room::many_words;
 use key::Kind;
 use metadata::Root;
 use metadata::Value;
@@ -41,12 +43,16 @@ fn lookup_with(image: &[u8], memory: &mut [u64], m: Map, key: &[u8]) -> Value
 pub fn lookup(image: &[u8], newest: Chunk, map: u32, kind: Kind, key: &[u8]) -> Value
     ensures { λ r. ⌜ r ≡ valueOf (lookupIn (now (image .entry)) newest map kind (keyOf kind (now (key .entry)))) ⌝ }
 {
-    let mut memory = few_words();
     let m = Map {
         newest,
         id: map,
         kind,
     };
+    if image.len() < SMALL {
+        let mut memory = few_words();
+        return lookup_with(image, &mut memory, m, key);
+    }
+    let mut memory = many_words();
     lookup_with(image, &mut memory, m, key)
 }
 
@@ -66,12 +72,16 @@ fn index_with(image: &[u8], memory: &mut [u64], m: Map, index: u64) -> Fetched
 pub fn index(image: &[u8], newest: Chunk, map: u32, kind: Kind, index: u64) -> Fetched
     ensures { λ r. ⌜ r ≡ fetchedOf (indexIn (now (image .entry)) newest map kind index) ⌝ }
 {
-    let mut memory = few_words();
     let m = Map {
         newest,
         id: map,
         kind,
     };
+    if image.len() < SMALL {
+        let mut memory = few_words();
+        return index_with(image, &mut memory, m, index);
+    }
+    let mut memory = many_words();
     index_with(image, &mut memory, m, index)
 }
 
@@ -119,11 +129,15 @@ fn count_with(image: &[u8], memory: &mut [u64], m: Map) -> Counted
 pub fn count(image: &[u8], newest: Chunk, map: u32, kind: Kind) -> Counted
     ensures { λ r. ⌜ r ≡ countedOf (countIn (now (image .entry)) newest map kind) ⌝ }
 {
-    let mut memory = few_words();
     let m = Map {
         newest,
         id: map,
         kind,
     };
+    if image.len() < SMALL {
+        let mut memory = few_words();
+        return count_with(image, &mut memory, m);
+    }
+    let mut memory = many_words();
     count_with(image, &mut memory, m)
 }

@@ -13,26 +13,25 @@ use refusal::Refusal;
 ghost use Prim.Native.Nat.{_≤_};
 ghost use lib.ListN.{length, take};
 ghost use Rattle.store.specs.Memory.{RightWords};
-ghost use Rattle.store.specs.WalkWays.{CameDown, CameLeft};
+ghost use Rattle.store.specs.WalkWays.{EndsDown, EndsLeft};
 
 // The way down from the root by the state's numbers: the entry after the one that they lead to,
 // or the child under which it is the leftmost.
 pub(crate) fn down_by(image: &[u8], memory: &mut [u64], m: Map, root: Position, w: Walk) -> Down
     requires { ⌜ (1 ≤ w .depth) × (w .depth ≤ 16) × (w .depth ≤ length (w .places)) × (1 ≤ root .bits) × RightWords (now image) (m .newest) (now memory) ⌝ }
-    ensures { λ r. ⌜ RightWords (now (image .entry)) (m .newest) (now (memory .exit)) × CameDown (now (image .entry)) (m .newest) (m .id) (m .kind) (take (w .depth) (w .places)) (root .bits) r ⌝ }
+    ensures { λ r. ⌜ RightWords (now (image .entry)) (m .newest) (now (memory .exit)) × EndsDown (now (image .entry)) (m .newest) (m .id) (m .kind) (take (w .depth) (w .places)) (root .bits) r ⌝ }
 {
     let kind = m.kind;
     let places = w.places;
-    let depth = w.depth;
     let mut p = root;
     let mut level: u32 = 0;
     let mut found: u32 = 0;
     let mut number: u32 = 0;
     let mut next = root;
-    while level < depth {
+    while level < w.depth {
         let i = places[level as usize];
         let j = read_page(image, memory, m, p);
-        let a = after_at(image, kind, j, i, level + 1 == depth);
+        let a = after_at(image, kind, j, i, level + 1 == w.depth);
         match a {
             After::Refused(r) => return Down::Refused(r),
             After::Entry { key, size, at, len } => {
@@ -69,7 +68,7 @@ pub(crate) fn leftmost_from(
     level: u32,
 ) -> Leftmost
     requires { ⌜ (level ≤ 16) × RightWords (now image) (m .newest) (now memory) ⌝ }
-    ensures { λ r. ⌜ RightWords (now (image .entry)) (m .newest) (now (memory .exit)) × CameLeft (now (image .entry)) (m .newest) (m .id) (m .kind) level (p .bits) r ⌝ }
+    ensures { λ r. ⌜ RightWords (now (image .entry)) (m .newest) (now (memory .exit)) × EndsLeft (now (image .entry)) (m .newest) (m .id) (m .kind) level (p .bits) r ⌝ }
 {
     let kind = m.kind;
     let mut q = p;

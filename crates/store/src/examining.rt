@@ -3,22 +3,22 @@
 use super::Map;
 use super::read::read_page;
 use super::read::root_at;
+use super::room::SMALL;
 use super::room::few_words;
 use super::room::many_words;
 use key::Kind;
 use metadata::Root;
 use opening::Chunk;
-use page::Judged;
 use position::Position;
 use refusal::Refusal;
 use rising::Bound;
-use rising::separators_lie;
 use soundness::Examined;
 use soundness::Inner;
+use soundness::Part;
 use soundness::Report;
 use soundness::Span;
 use soundness::child_at;
-use soundness::leaf_of;
+use soundness::part_at;
 ghost use Prim.Native.Nat.{_≤_, _<_};
 ghost use mathlib.Core.Path.{_≡_};
 ghost use Rattle.soundness.specs.Examining.{examinedOf};
@@ -78,34 +78,10 @@ fn examine_page(
     }
     let j = read_page(image, memory, m, p);
     let kind = m.kind;
-    match j {
-        Judged::Refused(r) => Examined::Refused(r),
-        Judged::Leaf {
-            n,
-            keys,
-            values: _,
-            end,
-        } => leaf_of(image, kind, n, keys, end, span, top),
-        Judged::Inner {
-            n,
-            positions,
-            counts,
-            keys,
-            end,
-            total: _,
-        } => {
-            let lo = span.lo;
-            let hi = span.hi;
-            if separators_lie(image, kind, n, keys, end, lo, hi) {} else {
-                return Examined::Refused(Refusal::new(Refusal::UNSOUND));
-            }
-            let page = Inner {
-                n,
-                positions,
-                counts,
-                keys,
-                end,
-            };
+    let part = part_at(image, kind, j, span, top);
+    match part {
+        Part::Done(x) => x,
+        Part::Children(page) => {
             let x = examine_children(image, memory, m, page, span, levels - 1);
             over_children(x)
         }
@@ -125,11 +101,7 @@ fn examine_children(
     ensures { λ r. ⌜ RightWords (now (image .entry)) (m .newest) (now (memory .exit)) × (r ≡ examinedChildren (now (image .entry)) m levels span page) ⌝ }
 {
     let kind = m.kind;
-    let mut r = Report {
-        entries: 0,
-        pages: 0,
-        depth: 0,
-    };
+    let mut r = Report::none();
     let mut lo = span.lo;
     let hi = span.hi;
     let mut counts = page.counts;
@@ -166,11 +138,7 @@ fn examine_with(image: &[u8], memory: &mut [u64], m: Map) -> Examined
         Root::Refused(r) => Examined::Refused(r),
         Root::At(p) => {
             if p.is_empty() {
-                return Examined::Passed(Report {
-                    entries: 0,
-                    pages: 0,
-                    depth: 0,
-                });
+                return Examined::Passed(Report::none());
             }
             let span = Span {
                 lo: Bound::Open,
@@ -180,9 +148,6 @@ fn examine_with(image: &[u8], memory: &mut [u64], m: Map) -> Examined
         }
     }
 }
-
-// An image below so many bytes has fewer blocks than few words have room for.
-const SMALL: usize = 1048576;
 
 // The examination of a map by its id and kind.
 pub fn examine(image: &[u8], newest: Chunk, map: u32, kind: Kind) -> Examined

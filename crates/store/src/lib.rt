@@ -26,10 +26,11 @@ use metadata::id_by;
 use metadata::located_by;
 use metadata::name_key;
 use opening::Chunk;
-use position::Position;
 use read::root_at;
 use refusal::Refusal;
+use room::SMALL;
 use room::few_words;
+use room::many_words;
 pub use walking::advance;
 ghost use mathlib.Core.Path.{_≡_};
 ghost use Rattle.metadata.specs.Answers.{placeSaid, idSaid, rootSaid};
@@ -79,7 +80,11 @@ pub const QUESTIONS: u32 = 8;
 pub fn chunk_place(image: &[u8], newest: Chunk, chunk: u32) -> Located
     ensures { λ r. ⌜ placeSaid r ≡ chunkAt (now (image .entry)) newest 8 chunk ⌝ }
 {
-    let mut memory = few_words();
+    if image.len() < SMALL {
+        let mut memory = few_words();
+        return located_by(locate(image, newest, &mut memory, chunk, QUESTIONS));
+    }
+    let mut memory = many_words();
     located_by(locate(image, newest, &mut memory, chunk, QUESTIONS))
 }
 
@@ -94,7 +99,7 @@ fn named_with(image: &[u8], newest: Chunk, memory: &mut [u64], name: &[u8]) -> I
     let bytes = key.bytes;
     let n = key.len;
     let m = Map::metadata(newest);
-    let root = Position { bits: newest.root };
+    let root = newest.root;
     let f = descend(image, memory, m, root, &bytes[..n], QUESTIONS);
     id_by(image, f)
 }
@@ -103,7 +108,11 @@ fn named_with(image: &[u8], newest: Chunk, memory: &mut [u64], name: &[u8]) -> I
 pub fn map_id(image: &[u8], newest: Chunk, name: &[u8]) -> Id
     ensures { λ r. ⌜ idSaid r ≡ namedMap (now (image .entry)) newest (now (name .entry)) ⌝ }
 {
-    let mut memory = few_words();
+    if image.len() < SMALL {
+        let mut memory = few_words();
+        return named_with(image, newest, &mut memory, name);
+    }
+    let mut memory = many_words();
     named_with(image, newest, &mut memory, name)
 }
 
@@ -111,6 +120,10 @@ pub fn map_id(image: &[u8], newest: Chunk, name: &[u8]) -> Id
 pub fn map_root(image: &[u8], newest: Chunk, map: u32) -> Root
     ensures { λ r. ⌜ rootSaid r ≡ mapRoot (now (image .entry)) newest map ⌝ }
 {
-    let mut memory = few_words();
+    if image.len() < SMALL {
+        let mut memory = few_words();
+        return root_at(image, newest, &mut memory, map);
+    }
+    let mut memory = many_words();
     root_at(image, newest, &mut memory, map)
 }

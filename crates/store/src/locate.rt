@@ -1,13 +1,11 @@
 // Locating a chunk and a descent, which ask each other. What was located is remembered in an array
 // that the caller lends; `q` is how many questions may still be opened.
 use super::Map;
-use super::room::is_crowded;
-use super::room::many_words;
 use super::settle::settle;
 use memory::Recalled;
 use metadata::Advance;
-use metadata::Looked;
-use metadata::Told;
+use metadata::Answer;
+use metadata::Location;
 use metadata::advance_at;
 use metadata::chunk_key;
 use metadata::place_of;
@@ -16,17 +14,16 @@ use position::Position;
 use refusal::Refusal;
 ghost use Prim.Native.Nat.{_≤_};
 ghost use mathlib.Core.Path.{_≡_};
-ghost use Rattle.key.specs.Key.{keyOf};
-ghost use Rattle.store.specs.Memory.{RightWords, TellsOf, Sought};
+ghost use Rattle.store.specs.Memory.{RightWords, IsLocation, IsAnswerIn};
 
 // Where chunk `c` is. The newest is known, others may be remembered; any other is asked for in the
 // metadata, which is one more open question.
-pub(crate) fn locate(image: &[u8], newest: Chunk, memory: &mut [u64], c: u32, q: u32) -> Told
+pub(crate) fn locate(image: &[u8], newest: Chunk, memory: &mut [u64], c: u32, q: u32) -> Location
     requires { ⌜ (q ≤ 8) × RightWords (now image) newest (now memory) ⌝ }
-    ensures { λ r. ⌜ RightWords (now (image .entry)) newest (now (memory .exit)) × TellsOf (now (image .entry)) newest q c r ⌝ }
+    ensures { λ r. ⌜ RightWords (now (image .entry)) newest (now (memory .exit)) × IsLocation (now (image .entry)) newest q c r ⌝ }
 {
     if c == newest.id {
-        return Told::At {
+        return Location::At {
             place: place_of(newest),
             need: 0,
         };
@@ -34,32 +31,20 @@ pub(crate) fn locate(image: &[u8], newest: Chunk, memory: &mut [u64], c: u32, q:
     let r = memory::recall(memory, c);
     if let Recalled::At { place, need } = r {
         if q < need {
-            return Told::Refused(Refusal::new(Refusal::NINTH_QUESTION));
+            return Location::Refused(Refusal::new(Refusal::NINTH_QUESTION));
         }
-        return Told::At { place, need };
+        return Location::At { place, need };
     }
     if q == 0 {
-        return Told::Refused(Refusal::new(Refusal::NINTH_QUESTION));
-    }
-    if is_crowded(r, memory.len()) {
-        return locate_anew(image, newest, c, q);
+        return Location::Refused(Refusal::new(Refusal::NINTH_QUESTION));
     }
     let key = chunk_key(c);
     let bytes = key.bytes;
     let n = key.len;
     let m = Map::metadata(newest);
-    let root = Position { bits: newest.root };
+    let root = newest.root;
     let f = descend(image, memory, m, root, &bytes[..n], q - 1);
     settle(image, memory, c, f)
-}
-
-// The same with many words, since the few that were lent are full: those stay as they are.
-fn locate_anew(image: &[u8], newest: Chunk, c: u32, q: u32) -> Told
-    requires { ⌜ q ≤ 8 ⌝ }
-    ensures { λ r. ⌜ TellsOf (now (image .entry)) newest q c r ⌝ }
-{
-    let mut memory = many_words();
-    locate(image, newest, &mut memory, c, q)
 }
 
 // A lookup of `key` in the map whose root is given: one page a turn, at most 16.
@@ -70,12 +55,12 @@ pub(crate) fn descend(
     root: Position,
     key: &[u8],
     q: u32,
-) -> Looked
+) -> Answer
     requires { ⌜ (q ≤ 8) × RightWords (now image) (m .newest) (now memory) ⌝ }
-    ensures { λ r. ⌜ RightWords (now (image .entry)) (m .newest) (now (memory .exit)) × Sought (now (image .entry)) (m .newest) (m .id) (m .kind) (root .bits) (keyOf (m .kind) (now (key .entry))) q r ⌝ }
+    ensures { λ r. ⌜ RightWords (now (image .entry)) (m .newest) (now (memory .exit)) × IsAnswerIn (now (image .entry)) m root (now (key .entry)) q r ⌝ }
 {
     if root.is_empty() {
-        return Looked::Absent { need: 0 };
+        return Answer::Absent { need: 0 };
     }
     let newest = m.newest;
     let kind = m.kind;
@@ -84,7 +69,7 @@ pub(crate) fn descend(
     let mut left: u32 = 16;
     while 0 < left {
         if p.is_empty() {
-            return Looked::Refused(Refusal::new(Refusal::PLACE));
+            return Answer::Refused(Refusal::new(Refusal::PLACE));
         }
         let l = locate(image, newest, memory, p.chunk(), q);
         let a = advance_at(image, l, need, p, m.id, kind, key);
@@ -99,5 +84,5 @@ pub(crate) fn descend(
         }
         left -= 1;
     }
-    Looked::Refused(Refusal::new(Refusal::TOO_DEEP))
+    Answer::Refused(Refusal::new(Refusal::TOO_DEEP))
 }

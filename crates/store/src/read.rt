@@ -3,8 +3,8 @@ use super::Map;
 use super::QUESTIONS;
 use super::locate::descend;
 use super::locate::locate;
+use metadata::Location;
 use metadata::Root;
-use metadata::Told;
 use metadata::root_by;
 use metadata::root_key;
 use opening::Chunk;
@@ -30,8 +30,8 @@ pub(crate) fn read_page(image: &[u8], memory: &mut [u64], m: Map, p: Position) -
     let kind = m.kind;
     let t = locate(image, newest, memory, p.chunk(), QUESTIONS);
     match t {
-        Told::At { place, need: _ } => page::judge(image, place, p, m.id, kind),
-        Told::Refused(r) => Judged::Refused(r),
+        Location::At { place, need: _ } => page::judge(image, place, p, m.id, kind),
+        Location::Refused(r) => Judged::Refused(r),
     }
 }
 
@@ -41,13 +41,14 @@ pub(crate) fn root_at(image: &[u8], newest: Chunk, memory: &mut [u64], map: u32)
     ensures { λ r. ⌜ RightWords (now (image .entry)) newest (now (memory .exit)) × (rootSaid r ≡ mapRoot (now (image .entry)) newest map) ⌝ }
 {
     if map == 0 {
-        return Root::At(Position { bits: newest.root });
+        let root = newest.root;
+        return Root::At(root);
     }
     let key = root_key(map);
     let bytes = key.bytes;
     let n = key.len;
     let m = Map::metadata(newest);
-    let root = Position { bits: newest.root };
+    let root = newest.root;
     let f = descend(image, memory, m, root, &bytes[..n], QUESTIONS);
     root_by(image, f)
 }

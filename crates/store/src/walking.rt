@@ -3,7 +3,9 @@ use super::Map;
 use super::down::down_by;
 use super::down::leftmost_from;
 use super::read::root_at;
+use super::room::SMALL;
 use super::room::few_words;
+use super::room::many_words;
 use cursor::Down;
 use cursor::Stepped;
 use cursor::Walk;
@@ -30,15 +32,12 @@ fn advance_from(image: &[u8], memory: &mut [u64], m: Map, root: Position, w: Wal
     if is_formed(w) {} else {
         return w.refused(Refusal::new(Refusal::UNSOUND));
     }
+    if root.is_empty() {
+        return w.in_empty();
+    }
     if w.depth == 0 {
-        if root.is_empty() {
-            return w.done();
-        }
         let l = leftmost_from(image, memory, m, root, 0);
         return left_step(w, 0, 0, l);
-    }
-    if root.is_empty() {
-        return w.refused(Refusal::new(Refusal::UNSOUND));
     }
     let places = w.places;
     let d = down_by(image, memory, m, root, w);
@@ -83,11 +82,15 @@ fn advance_with(image: &[u8], memory: &mut [u64], m: Map, w: Walk) -> Stepped
 pub fn advance(image: &[u8], newest: Chunk, map: u32, kind: Kind, w: Walk) -> Stepped
     ensures { λ r. ⌜ r ≡ stepIn (now (image .entry)) newest map kind w ⌝ }
 {
-    let mut memory = few_words();
     let m = Map {
         newest,
         id: map,
         kind,
     };
+    if image.len() < SMALL {
+        let mut memory = few_words();
+        return advance_with(image, &mut memory, m, w);
+    }
+    let mut memory = many_words();
     advance_with(image, &mut memory, m, w)
 }

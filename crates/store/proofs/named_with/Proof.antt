@@ -17,23 +17,23 @@ returns c =
     ap refuse (c .new .ensures) ∙ sym (name-long (now (a .image)) (a .newest) (now (a .name)) (c .before .if1 .taken))
 
 array-share-prefix-bytes : tie.Need-array-share-prefix-bytes
-array-share-prefix-bytes c = rw (c .before .before .before .name-key .ensures) (padded-inside 1005 (nameKey (take 1000 (now (c .before .before .before .before .before .before .before .before .args .name)))))
+array-share-prefix-bytes c = rw (c .before .before .before .before .name-key .ensures) (padded-inside 1005 (nameKey (take 1000 (now (c .before .before .before .before .before .before .before .before .before .args .name)))))
 
 slice-aggregate-descend : tie.Need-slice-aggregate-descend
 slice-aggregate-descend c =
-    sym (length-take-le _ _ (rw (c .before .before .before .before .name-key .ensures) (padded-inside 1005 (nameKey (take 1000 (now (c .before .before .before .before .before .before .before .before .before .args .name)))))))
+    sym (length-take-le _ _ (rw (c .before .before .before .before .before .name-key .ensures) (padded-inside 1005 (nameKey (take 1000 (now (c .before .before .before .before .before .before .before .before .before .before .args .name)))))))
 
 descend-requires : tie.Need-descend-requires
-descend-requires c κs = (omega arith, rw (c .before .before .metadata .ensures) (c .before .before .before .before .before .before .before .before .before .pre))
+descend-requires c κs = (omega arith, rw (c .before .before .before .metadata .ensures) (c .before .before .before .before .before .before .before .before .before .before .pre))
 
 returns-2 : tie.Need-returns-2
 returns-2 c =
-    let a = c .before .before .before .before .before .before .before .before .before .before .before .before .before .args in
+    let a = c .before .before .before .before .before .before .before .before .before .before .before .before .before .before .args in
     let d = c .before .before .before .descend in
-    let e = rw (c .before .before .before .before .before .before .metadata .ensures) at (d .ensures) in
-    let short = c .before .before .before .before .before .before .before .before .before .if1 .left in
+    let e = rw (c .before .before .before .before .before .before .before .metadata .ensures) at (d .ensures) in
+    let short = c .before .before .before .before .before .before .before .before .before .before .if1 .left in
     let whole : take 1000 (now (a .name)) ≡ now (a .name) = take-all 1000 (now (a .name)) short in
-    c .id-by .ensures ∙ id-sought (now (a .image)) (a .newest) _ (d .result) (e .1) (now (a .name)) short (rw (c .before .before .before .before .before .before .before .before .name-key .ensures, whole) (padded-text 1005 (nameKey (now (a .name)))))
+    c .id-by .ensures ∙ id-sought (now (a .image)) (a .newest) _ (d .result) (e .1) (now (a .name)) short (rw (c .before .before .before .before .before .before .before .before .before .name-key .ensures, whole) (padded-text 1005 (nameKey (now (a .name)))))
 
 pub named-with-spec : {M : Type 1} → statement M
 named-with-spec =

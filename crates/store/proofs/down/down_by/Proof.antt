@@ -5,19 +5,19 @@ use mathlib.Core.Logic.{⊎-elim}
 use native.Mathlib.Omega.{arith}
 use lib.ListN.{length}
 use Rattle.store.specs.Memory.{RightWords}
-use Rattle.store.specs.WalkReadLaws.{Going, going-root, going-refused, going-entry, going-over, going-last, going-child}
-use Rattle.store.specs.WalkReadLaws.{entry-few, child-few}
+use Rattle.store.specs.WayLaws.{Going, going-root, going-refused, going-entry, going-over, going-last, going-child}
+use Rattle.store.specs.WayLaws.{entry-few, child-few}
 use borrow.Author.Needs.{needs}
 use Rattle.store.proofs.down.down_by.Statement.{statement}
 use Rattle.store.proofs.down.down_by.Tie as tie
 
 abbrev Inv-loop : tie.InvT-loop
-Inv-loop image memory₀ m kind places depth p₀ level₀ found₀ number₀ next₀ memory p level found number next =
-    RightWords image (m .newest) memory × Going image (m .newest) (m .id) (m .kind) places depth (p₀ .bits) level (p .bits) found number next ×
+Inv-loop image memory₀ m w kind places p₀ level₀ found₀ number₀ next₀ memory p level found number next =
+    RightWords image (m .newest) memory × Going image (m .newest) (m .id) (m .kind) places (w .depth) (p₀ .bits) level (p .bits) found number next ×
     (length memory ≡ length memory₀)
 
 abbrev μ-loop : tie.MeasureT-loop
-μ-loop image memory₀ m kind places depth p₀ level₀ found₀ number₀ next₀ memory p level found number next = depth - level
+μ-loop image memory₀ m w kind places p₀ level₀ found₀ number₀ next₀ memory p level found number next = w .depth - level
 
 loop-holds : tie.Need-loop-holds Inv-loop μ-loop
 loop-holds c =
@@ -30,15 +30,16 @@ loop-holds c =
     )
 
 read-page-requires : tie.Need-read-page-requires Inv-loop μ-loop
-read-page-requires c κs = c .before .before .loop .inv .0
+read-page-requires c κs = c .before .before .before .loop .inv .0
 
 returns : tie.Need-returns Inv-loop μ-loop
 returns c =
-    let a = c .before .before .before .before .before .before .before .before .before .before .before .before .before .args in
-    let few : a .w .depth ≤ length (a .w .places) = c .before .before .before .before .before .before .before .before .before .before .before .before .before .pre .2 in
-    let most : a .w .depth ≤ 16 = c .before .before .before .before .before .before .before .before .before .before .before .before .before .pre .1 in
-    let l = c .before .before .before .before .before .before .before .before .before .loop in
-    let r = c .before .before .before .before .before .before .read-page in
+    let s = c .before .before .before .before .before .before .before .before .before .before .before .before .before .before .before in
+    let a = s .args in
+    let few : a .w .depth ≤ length (a .w .places) = s .pre .2 in
+    let most : a .w .depth ≤ 16 = s .pre .1 in
+    let l = c .before .before .before .before .before .before .before .before .before .before .before .loop in
+    let r = c .before .before .before .before .before .before .before .read-page in
     let after-at = c .before .before .before .after-at in
     let found = c .before .a in (
       r .ensures .0,
@@ -46,14 +47,14 @@ returns c =
           (r .ensures .1) (after-at .ensures) (found .given .1),
     )
 
-add-t33 : tie.Need-add-t33 Inv-loop μ-loop
-add-t33 c =
-    let s = c .before .before .before .before .before .before .before .before .before .before .before .before .before in
+add-t32 : tie.Need-add-t32 Inv-loop μ-loop
+add-t32 c =
+    let s = c .before .before .before .before .before .before .before .before .before .before .before .before .before .before .before in
     let a = s .args in
-    let few : a .w .depth ≤ length (a .w .places) = c .before .before .before .before .before .before .before .before .before .before .before .before .before .pre .2 in
-    let most : a .w .depth ≤ 16 = c .before .before .before .before .before .before .before .before .before .before .before .before .before .pre .1 in
-    let l = c .before .before .before .before .before .before .before .before .before .loop in
-    let r = c .before .before .before .before .before .before .read-page in
+    let few : a .w .depth ≤ length (a .w .places) = s .pre .2 in
+    let most : a .w .depth ≤ 16 = s .pre .1 in
+    let l = c .before .before .before .before .before .before .before .before .before .before .before .loop in
+    let r = c .before .before .before .before .before .before .before .read-page in
     let after-at = c .before .before .before .after-at in
     let a2 = c .before .a2 in
     omega (
@@ -64,12 +65,12 @@ add-t33 c =
 
 returns-2 : tie.Need-returns-2 Inv-loop μ-loop
 returns-2 c =
-    let s = c .before .before .before .before .before .before .before .before .before .before .before .before .before in
+    let s = c .before .before .before .before .before .before .before .before .before .before .before .before .before .before .before in
     let a = s .args in
-    let few : a .w .depth ≤ length (a .w .places) = c .before .before .before .before .before .before .before .before .before .before .before .before .before .pre .2 in
-    let most : a .w .depth ≤ 16 = c .before .before .before .before .before .before .before .before .before .before .before .before .before .pre .1 in
-    let l = c .before .before .before .before .before .before .before .before .before .loop in
-    let r = c .before .before .before .before .before .before .read-page in
+    let few : a .w .depth ≤ length (a .w .places) = s .pre .2 in
+    let most : a .w .depth ≤ 16 = s .pre .1 in
+    let l = c .before .before .before .before .before .before .before .before .before .before .before .loop in
+    let r = c .before .before .before .before .before .before .before .read-page in
     let after-at = c .before .before .before .after-at in
     let a2 = c .before .a2 in (
       r .ensures .0,
@@ -79,11 +80,12 @@ returns-2 c =
 
 returns-3 : tie.Need-returns-3 Inv-loop μ-loop
 returns-3 c =
-    let a = c .before .before .before .before .before .before .before .before .before .before .before .before .before .args in
-    let few : a .w .depth ≤ length (a .w .places) = c .before .before .before .before .before .before .before .before .before .before .before .before .before .pre .2 in
-    let most : a .w .depth ≤ 16 = c .before .before .before .before .before .before .before .before .before .before .before .before .before .pre .1 in
-    let l = c .before .before .before .before .before .before .before .before .before .loop in
-    let r = c .before .before .before .before .before .before .read-page in
+    let s = c .before .before .before .before .before .before .before .before .before .before .before .before .before .before .before in
+    let a = s .args in
+    let few : a .w .depth ≤ length (a .w .places) = s .pre .2 in
+    let most : a .w .depth ≤ 16 = s .pre .1 in
+    let l = c .before .before .before .before .before .before .before .before .before .before .before .loop in
+    let r = c .before .before .before .before .before .before .before .read-page in
     let after-at = c .before .before .before .after-at in
     let enum-told = c .before .enum-told in
     let over-at = c .over-at in (
@@ -94,11 +96,12 @@ returns-3 c =
 
 add-number : tie.Need-add-number Inv-loop μ-loop
 add-number c =
-    let a = c .before .before .before .before .before .before .before .before .before .before .before .before .before .args in
-    let few : a .w .depth ≤ length (a .w .places) = c .before .before .before .before .before .before .before .before .before .before .before .before .before .pre .2 in
-    let most : a .w .depth ≤ 16 = c .before .before .before .before .before .before .before .before .before .before .before .before .before .pre .1 in
-    let l = c .before .before .before .before .before .before .before .before .before .loop in
-    let r = c .before .before .before .before .before .before .read-page in
+    let s = c .before .before .before .before .before .before .before .before .before .before .before .before .before .before .before in
+    let a = s .args in
+    let few : a .w .depth ≤ length (a .w .places) = s .pre .2 in
+    let most : a .w .depth ≤ 16 = s .pre .1 in
+    let l = c .before .before .before .before .before .before .before .before .before .before .before .loop in
+    let r = c .before .before .before .before .before .before .before .read-page in
     let after-at = c .before .before .before .after-at in
     let a4 = c .before .a4 in
     omega (
@@ -109,11 +112,12 @@ add-number c =
 
 loop-again : tie.Need-loop-again Inv-loop μ-loop
 loop-again c =
-    let a = c .before .before .before .before .before .before .before .before .before .before .before .args in
-    let few : a .w .depth ≤ length (a .w .places) = c .before .before .before .before .before .before .before .before .before .before .before .pre .2 in
-    let most : a .w .depth ≤ 16 = c .before .before .before .before .before .before .before .before .before .before .before .pre .1 in
-    let l = c .before .before .before .before .before .before .before .loop in
-    let r = c .before .before .before .before .read-page in
+    let s = c .before .before .before .before .before .before .before .before .before .before .before .before .before in
+    let a = s .args in
+    let few : a .w .depth ≤ length (a .w .places) = s .pre .2 in
+    let most : a .w .depth ≤ 16 = s .pre .1 in
+    let l = c .before .before .before .before .before .before .before .before .before .loop in
+    let r = c .before .before .before .before .before .read-page in
     let after-at = c .before .after-at in
     let branch = c .match in (
       r .ensures .0,
@@ -129,7 +133,7 @@ loop-again c =
     )
 
 returns-4 : tie.Need-returns-4 Inv-loop μ-loop
-returns-4 c = absurd (omega (arith, c .before .loop .inv .1 .below))
+returns-4 c = absurd (omega (arith, c .before .before .loop .inv .1 .below))
 
 pub down-by-spec : {M : Type 1} → statement M
 down-by-spec =
@@ -148,7 +152,7 @@ down-by-spec =
     (λ c. search needs)
     returns
     (λ c. search needs)
-    add-t33
+    add-t32
     (λ c. search needs)
     returns-2
     (λ c. search needs)

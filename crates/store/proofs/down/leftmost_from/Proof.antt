@@ -5,8 +5,8 @@ use mathlib.Core.Path.{_≡_, refl}
 use mathlib.Core.Logic.{⊎-elim}
 use native.Mathlib.Omega.{arith}
 use Rattle.store.specs.Memory.{RightWords}
-use Rattle.store.specs.WalkReadLaws.{Lefting, lefting-start, lefting-deep, lefting-refused, lefting-entry, lefting-over}
-use Rattle.store.specs.WalkReadLaws.{lefting-empty, lefting-last, lefting-child}
+use Rattle.store.specs.WayLaws.{Lefting, lefting-start, lefting-deep, lefting-refused, lefting-entry, lefting-over}
+use Rattle.store.specs.WayLaws.{lefting-empty, lefting-last, lefting-child}
 use borrow.Author.Needs.{needs}
 use Rattle.store.proofs.down.leftmost_from.Statement.{statement}
 use Rattle.store.proofs.down.leftmost_from.Tie as tie

@@ -1,12 +1,11 @@
-use mathlib.Core.Path.{_≡_, refl, sym, _∙_, ap}
+use mathlib.Core.Path.{_≡_, refl, _∙_, ap}
 use native.Mathlib.Omega.{arith}
 use denote.Ref.{now}
 use lib.ListN.{length}
 use borrow.Author.Needs.{needs}
-use Rattle.soundness.specs.declared.Inner.{Inner}
 use Rattle.store.specs.Memory.{RightWords}
 use Rattle.store.specs.Examining.{overChildren}
-use Rattle.store.specs.ExamineLaws.{examined-deep, examined-refused, examined-leaf, examined-unsound, examined-inner, inner-stands}
+use Rattle.store.specs.ExamineLaws.{examined-deep, page-done, page-under}
 use Rattle.store.specs.CameLaws.{Came, came-first, came-fits, came-stopped, came-last, came-on, over-fits}
 use Prim.Native.Nat.{ℕ, _+_, _*_, _-_, _<_}
 use borrow.Fn.Kinds.{In}
@@ -18,12 +17,12 @@ use Rattle.store.proofs.examining.examine_page.Reads as examine-page
 use Rattle.store.proofs.examining.examine_page.Kinds as examine-page-kinds
 use Rattle.store.proofs.examining.+examine_children+examine_page.Lts-examine_page as examine-page-lts
 use Rattle.refusal.proofs.Refusal.new.Reads as new-reads
+use Rattle.soundness.proofs.Report.none.Reads as none-reads
 use Rattle.soundness.proofs.child_at.Reads as child-at-reads
-use Rattle.soundness.proofs.leaf_of.Reads as leaf-of-reads
+use Rattle.soundness.proofs.part_at.Reads as part-at-reads
 use Rattle.store.proofs.examining.over_children.Reads as over-children-reads
 use Rattle.store.proofs.examining.tally.Reads as tally-reads
 use Rattle.store.proofs.read.read_page.Reads as read-page-reads
-use Rattle.rising.proofs.separators_lie.Reads as separators-lie-reads
 use Rattle.store.proofs.examining.+examine_children+examine_page.{statement}
 use Rattle.store.proofs.examining.+examine_children+examine_page.Tie.{close}
 
@@ -71,6 +70,8 @@ examine-children-μ-loop image memory₀ m page levels kind r₀ lo₀ hi counts
     page .n - j
 
 examine-children-meets : {M : Type 1} (t : ℕ) → examine-children-lts.Closed (
+  none-reads.Asked,
+  none-reads.Learnt,
   child-at-reads.Asked,
   child-at-reads.Learnt,
   examine-page-below t,
@@ -79,6 +80,8 @@ examine-children-meets : {M : Type 1} (t : ℕ) → examine-children-lts.Closed 
   tally-reads.Learnt,
 ) (examine-children-at t) examine-children.Post M
 examine-children-meets t = examine-children-lts.spec (
+  none-reads.Asked,
+  none-reads.Learnt,
   child-at-reads.Asked,
   child-at-reads.Learnt,
   examine-page-below t,
@@ -90,17 +93,19 @@ examine-children-meets t = examine-children-lts.spec (
     examine-children.Post
     examine-children-Inv-loop
     examine-children-μ-loop
+    (λ c κs. search needs)
     (λ c.
-    let a = c .before .before .args in
-    let g = c .before .before .pre .1 in
-    (g .1, came-first (now (a .image)) (a .m .newest) (a .m .id) (a .m .kind) (a .levels) (a .page) (a .span .lo) (a .span .hi) (g .2 .1), refl))
+    let a = c .before .before .before .args in
+    let g = c .before .before .before .pre .1 in
+    let e = c .none .ensures in
+    (g .1, rw e (came-first (now (a .image)) (a .m .newest) (a .m .id) (a .m .kind) (a .levels) (a .page) (a .span .lo) (a .span .hi) (g .2 .1)), refl))
     (λ c κs. search needs)
     (λ c κs.
-    let g = c .before .before .before .before .before .before .pre in
+    let g = c .before .before .before .before .before .before .before .pre in
     (omega (arith, g .0), (omega (arith, g .1 .0), c .before .before .before .loop .inv .0)))
     (λ c κs.
-    let a = c .before .before .before .before .before .before .before .before .before .args in
-    let g = c .before .before .before .before .before .before .before .before .before .pre .1 in
+    let a = c .before .before .before .before .before .before .before .before .before .before .args in
+    let g = c .before .before .before .before .before .before .before .before .before .before .pre .1 in
     let l = c .before .before .before .before .before .before .loop in
     came-fits (now (a .image)) (a .m .newest) (a .m .id) (a .m .kind) (a .levels) (a .page) (a .span .lo) (a .span .hi) (g .2 .1) (l .j) (l .counts)
     (l .keys) (l .lo) (l .r) (l .inv .1) (c .before .before .before .before .before .child-at .ensures)
@@ -109,8 +114,8 @@ examine-children-meets t = examine-children-lts.spec (
     (λ c. search needs)
     (λ c. search needs)
     (λ c.
-    let a = c .before .before .before .before .before .before .before .before .before .before .before .before .args in
-    let g = c .before .before .before .before .before .before .before .before .before .before .before .before .pre .1 in
+    let a = c .before .before .before .before .before .before .before .before .before .before .before .before .before .args in
+    let g = c .before .before .before .before .before .before .before .before .before .before .before .before .before .pre .1 in
     let l = c .before .before .before .before .before .before .before .before .before .loop in (
       c .before .before .before .before .before .examine-page .ensures .0,
       came-stopped (now (a .image)) (a .m .newest) (a .m .id) (a .m .kind) (a .levels) (a .page)
@@ -120,8 +125,8 @@ examine-children-meets t = examine-children-lts.spec (
     ))
     (λ c. search needs)
     (λ c.
-    let a = c .before .before .before .before .before .before .before .before .before .before .before .before .before .before .before .args in
-    let g = c .before .before .before .before .before .before .before .before .before .before .before .before .before .before .before .pre .1 in
+    let a = c .before .before .before .before .before .before .before .before .before .before .before .before .before .before .before .before .args in
+    let g = c .before .before .before .before .before .before .before .before .before .before .before .before .before .before .before .before .pre .1 in
     let l = c .before .before .before .before .before .before .before .before .before .before .before .before .loop in (
       c .before .before .before .before .before .before .before .before .examine-page .ensures .0,
       came-last (now (a .image)) (a .m .newest) (a .m .id) (a .m .kind)
@@ -132,12 +137,12 @@ examine-children-meets t = examine-children-lts.spec (
     ))
     (λ c.
     let l = c .before .before .before .before .before .before .before .before .before .before .before .before .loop in
-    let w = c .before .before .before .before .before .before .before .before .before .before .before .before .before .before .before .pre .1 .2 .1 in
+    let w = c .before .before .before .before .before .before .before .before .before .before .before .before .before .before .before .before .pre .1 .2 .1 in
     omega (arith, l .inv .1 .here, w .few))
     (λ c. omega (arith, c .before .before .before .before .before .before .before .before .before .before .before .before .loop .inv .1 .here))
     (λ c.
-    let a = c .before .before .before .before .before .before .before .before .before .before .before .before .before .before .before .args in
-    let g = c .before .before .before .before .before .before .before .before .before .before .before .before .before .before .before .pre .1 in
+    let a = c .before .before .before .before .before .before .before .before .before .before .before .before .before .before .before .before .args in
+    let g = c .before .before .before .before .before .before .before .before .before .before .before .before .before .before .before .before .pre .1 in
     let l = c .before .before .before .before .before .before .before .before .before .before .before .before .loop in (
       c .before .before .before .before .before .before .before .before .examine-page .ensures .0,
       came-on (now (a .image)) (a .m .newest) (a .m .id) (a .m .kind)
@@ -153,10 +158,8 @@ examine-page-meets : {M : Type 1} (t : ℕ) → examine-page-lts.Closed (
   new-reads.Learnt,
   read-page-reads.Asked,
   read-page-reads.Learnt,
-  leaf-of-reads.Asked,
-  leaf-of-reads.Learnt,
-  separators-lie-reads.Asked,
-  separators-lie-reads.Learnt,
+  part-at-reads.Asked,
+  part-at-reads.Learnt,
   examine-children-below t,
   examine-children.Post,
   over-children-reads.Asked,
@@ -167,10 +170,8 @@ examine-page-meets t = examine-page-lts.spec (
   new-reads.Learnt,
   read-page-reads.Asked,
   read-page-reads.Learnt,
-  leaf-of-reads.Asked,
-  leaf-of-reads.Learnt,
-  separators-lie-reads.Asked,
-  separators-lie-reads.Learnt,
+  part-at-reads.Asked,
+  part-at-reads.Learnt,
   examine-children-below t,
   examine-children.Post,
   over-children-reads.Asked,
@@ -182,79 +183,47 @@ examine-page-meets t = examine-page-lts.spec (
     (λ c.
     let a = c .before .before .before .before .args in (
       c .before .before .before .before .pre .1 .1,
-      examined-deep (now (a .image)) (a .m .newest) (a .m .id) (a .m .kind) (a .levels) (a .top) (a .span .lo)
-          (a .span .hi) (a .p .bits) (c .before .if1 .taken) (c .new .ensures),
+      examined-deep (now (a .image)) (a .m .newest) (a .m .id) (a .m .kind) (a .levels) (a .top) (a .span .lo) (a .span .hi) (a .p .bits) (c .before .if1 .taken) (c .new .ensures),
     ))
     (λ c κs. c .before .before .before .before .pre .1 .1)
-    (λ c. search needs)
-    (λ c. search needs)
     (λ c κs. search needs)
     (λ c. search needs)
-    (λ c κs. search needs)
-    (λ c κs. search needs)
     (λ c. search needs)
-    (λ c.
-    let a = c .before .before .before .before .before .before .before .before .before .before .before .before .before .args in
-    let e = c .before .before .before .before .before .before .before .before .read-page .ensures in (
-      e .0,
-      examined-unsound (now (a .image)) (a .m .newest) (a .m .id) (a .m .kind) (a .levels) (a .top) (a .span .lo) (a .span .hi) (a .p .bits)
-          (c .before .before .before .before .before .before .before .before .before .before .if1 .left) (e .1) (c .before .before .before .before .j3 .given .1) (sym
-          (c .before .before .separators-lie .ensures) ∙ c .before .if2 .left) (c .new2 .ensures),
-    ))
-    (λ c. omega (arith, c .before .before .before .before .before .before .before .before .before .before .if1 .left))
+    (λ c. omega (arith, c .before .before .before .before .before .before .before .before .before .if1 .left))
     (λ c κs.
-    let a = c .before .before .before .before .before .before .before .before .before .before .before .before .before .args in
-    let g = c .before .before .before .before .before .before .before .before .before .before .before .before .before .pre in
-    let e = c .before .before .before .before .before .before .before .before .read-page .ensures in (
-      omega (arith, g .0, c .before .before .before .before .before .before .before .before .before .before .if1 .left),
-      (
-        omega (arith, g .1 .0, c .before .before .before .before .before .before .before .before .before .before .if1 .left),
-        e .0,
-        (
-          _,
-          inner-stands (now (a .image)) (a .m .newest) (a .m .id) (a .m .kind) (a .levels) (a .top) (a .span .lo) (a .span .hi) (a .p .bits)
-              (c .before .before .before .before .before .before .before .before .before .before .if1 .left) (e .1) (c .before .before .before .before .j3 .given .1),
-        ),
-      ),
-    ))
+    let a = c .before .before .before .before .before .before .before .before .before .before .before .before .args in
+    let g = c .before .before .before .before .before .before .before .before .before .before .before .before .pre in
+    let if1 = c .before .before .before .before .before .before .before .before .before .if1 in
+    let e = c .before .before .before .before .before .before .before .read-page .ensures in
+    let u = page-under (now (a .image)) (a .m .newest) (a .m .id) (a .m .kind) (a .levels) (a .top) (a .span .lo) (a .span .hi) (a .p .bits)
+    (if1 .left) (e .1) (c .before .before .before .before .part-at .ensures) (c .before .before .part2 .given .1) in
+    (omega (arith, g .0, if1 .left), (omega (arith, g .1 .0, if1 .left), e .0, u .all)))
     (λ c κs.
-    let a = c .before .before .before .before .before .before .before .before .before .before .before .before .before .before .before .before .args in
-    let g = c .before .before .before .before .before .before .before .before .before .before .before .before .before .before .before .before .pre in
-    let e = c .before .before .before .before .before .before .before .before .before .before .before .read-page .ensures in
-    let w = inner-stands (now (a .image)) (a .m .newest) (a .m .id) (a .m .kind) (a .levels) (a .top) (a .span .lo) (a .span .hi) (a .p .bits)
-    (c .before .before .before .before .before .before .before .before .before .before .before .before .before .if1 .left) (e .1)
-    (c .before .before .before .before .before .before .before .j3 .given .1) in
-    let v = c .before .before .before .before .before .before .before .j3 .given .0 in
-    let b : Inner = record { n = v .0; positions = v .1 .0; counts = v .1 .1 .0; keys = v .1 .1 .1 .0; end = v .1 .1 .1 .1 .0 } in
-    over-fits (now (a .image)) (a .m .newest) (a .m .id) (a .m .kind) (a .levels - 1) b (a .span .lo) (a .span .hi) (omega
-    (arith, g .1 .0, c .before .before .before .before .before .before .before .before .before .before .before .before .before .if1 .left)) w (c .before .before .examine-children .ensures .1))
-    (λ c. search needs)
-    (λ c.
-    let a = c .before .before .before .before .before .before .before .before .before .before .args in
-    let e = c .before .before .before .before .before .read-page .ensures in (
-      e .0,
-      examined-refused (now (a .image)) (a .m .newest) (a .m .id) (a .m .kind) (a .levels) (a .top) (a .span .lo) (a .span .hi) (a .p .bits)
-          (c .before .before .before .before .before .before .before .if1 .left) (e .1) (c .before .j .given .1),
-    ))
+    let a = c .before .before .before .before .before .before .before .before .before .before .before .before .before .before .before .args in
+    let if1 = c .before .before .before .before .before .before .before .before .before .before .before .before .if1 in
+    let e = c .before .before .before .before .before .before .before .before .before .before .read-page .ensures in
+    let u = page-under (now (a .image)) (a .m .newest) (a .m .id) (a .m .kind) (a .levels) (a .top) (a .span .lo) (a .span .hi) (a .p .bits)
+    (if1 .left) (e .1) (c .before .before .before .before .before .before .before .part-at .ensures) (c .before .before .before .before .before .part2 .given .1) in
+    over-fits (now (a .image)) (a .m .newest) (a .m .id) (a .m .kind) (a .levels - 1) (c .before .before .before .before .before .part2 .given .0 .0) (a .span .lo) (a .span .hi)
+    (omega (arith, c .before .before .before .before .before .before .before .before .before .before .before .before .before .before .before .pre .1 .0, if1 .left))
+    (u .all .1) (c .before .before .examine-children .ensures .1))
     (λ c. search needs)
     (λ c.
     let a = c .before .before .before .before .before .before .before .before .before .before .before .args in
     let e = c .before .before .before .before .before .before .read-page .ensures in (
       e .0,
-      c .leaf-of .ensures ∙ examined-leaf (now (a .image)) (a .m .newest) (a .m .id) (a .m .kind) (a .levels) (a .top) (a .span .lo) (a .span .hi)
-          (a .p .bits) (c .before .before .before .before .before .before .before .before .if1 .left) (e .1) (c .before .before .j2 .given .1),
+      page-done (now (a .image)) (a .m .newest) (a .m .id) (a .m .kind) (a .levels) (a .top) (a .span .lo) (a .span .hi) (a .p .bits)
+          (c .before .before .before .before .before .before .before .before .if1 .left) (e .1) (c .before .before .before .part-at .ensures) (c .before .part .given .1),
     ))
     (λ c. search needs)
     (λ c.
-    let a = c .before .before .before .before .before .before .before .before .before .before .before .before .before .before .before .before .before .args in
-    let e = c .before .before .before .before .before .before .before .before .before .before .before .before .read-page .ensures in
-    let f = c .before .before .before .examine-children .ensures in (
-      f .0,
-      c .over-children .ensures ∙ ap overChildren (f .1) ∙ examined-inner (now (a .image)) (a .m .newest) (a .m .id) (a .m .kind) (a .levels)
-          (a .top) (a .span .lo) (a .span .hi) (a .p .bits) (c .before .before .before .before .before .before .before .before .before .before .before .before .before .before .if1 .left)
-          (e .1) (c .before .before .before .before .before .before .before .before .j3 .given .1) (sym (c .before .before .before .before .before .before .separators-lie .ensures)
-          ∙ c .before .before .before .before .before .if2 .taken),
-    ))
+    let a = c .before .before .before .before .before .before .before .before .before .before .before .before .before .before .before .before .args in
+    let e = c .before .before .before .before .before .before .before .before .before .before .before .read-page .ensures in
+    let f = c .before .before .before .examine-children .ensures in
+    let u = page-under (now (a .image)) (a .m .newest) (a .m .id) (a .m .kind) (a .levels) (a .top) (a .span .lo) (a .span .hi) (a .p .bits)
+    (c .before .before .before .before .before .before .before .before .before .before .before .before .before .if1 .left) (e .1)
+    (c .before .before .before .before .before .before .before .before .part-at .ensures) (c .before .before .before .before .before .before .part2 .given .1) in
+    (f .0, c .over-children .ensures ∙ ap overChildren (f .1) ∙ u .children))
 
 pub +examine-children+examine-page-spec : {M : Type 1} → statement M
 +examine-children+examine-page-spec =

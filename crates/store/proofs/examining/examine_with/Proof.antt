@@ -1,5 +1,6 @@
-use mathlib.Core.Path.{_∙_}
+use mathlib.Core.Path.{_∙_, ap}
 use denote.Ref.{now}
+use Rattle.soundness.specs.declared.Examined.the-variants as examined
 use Rattle.store.specs.ExamineLaws.{map-refused, map-empty, map-examined}
 use Rattle.position.specs.Laws.{empty-zero, full-other}
 use borrow.Author.Needs.{needs}
@@ -11,9 +12,10 @@ root-at-requires c κs = c .before .before .before .before .pre
 
 returns : tie.Need-returns
 returns c =
-    let a = c .before .before .before .before .before .before .before .before .before .before .before .before .args in
-    let r = c .before .before .before .before .before .before .before .root-at in
-    map-empty (now (a .image)) (a .m .newest) (a .m .id) (a .m .kind) (r .result) (r .ensures .1) (c .before .before .before .r2 .given .1) (empty-zero (c .before .is-empty .ensures) (c .if1 .taken))
+    let a = c .before .before .before .before .before .before .before .before .before .before .before .before .before .args in
+    let r = c .before .before .before .before .before .before .before .before .root-at in
+    ap examined.Passed (c .none .ensures) ∙ map-empty (now (a .image)) (a .m .newest) (a .m .id) (a .m .kind) (r .result) (r .ensures .1)
+    (c .before .before .before .before .r2 .given .1) (empty-zero (c .before .before .is-empty .ensures) (c .before .if1 .taken))
 
 returns-2 : tie.Need-returns-2
 returns-2 c =
@@ -35,6 +37,7 @@ examine-with-spec =
     root-at-requires
     (λ c. search needs)
     (λ c. search needs)
+    (λ c κs. search needs)
     (λ c κs. search needs)
     (λ c. search needs)
     returns

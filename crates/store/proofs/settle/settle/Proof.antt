@@ -1,6 +1,6 @@
 use native.Mathlib.Omega.{arith}
 use mathlib.Core.Path.{refl, sym, ap, _∙_}
-use Rattle.metadata.specs.declared.Told.the-variants.{Refused}
+use Rattle.metadata.specs.declared.Location.the-variants.{Refused}
 use Rattle.metadata.specs.Answers.{needOf}
 use Rattle.store.specs.Steps.{settledTold, settledWords}
 use borrow.Author.Needs.{needs}

@@ -9,6 +9,12 @@ advance-with-requires c κs = rw (c .before .few-words .ensures) (empty-right _ 
 returns : tie.Need-returns
 returns c = c .before .advance-with .ensures
 
+advance-with-requires-2 : tie.Need-advance-with-requires-2
+advance-with-requires-2 c κs = rw (c .before .many-words .ensures) (empty-right _ _ 8192)
+
+returns-2 : tie.Need-returns-2
+returns-2 c = c .before .advance-with2 .ensures
+
 pub advance-spec : {M : Type 1} → statement M
 advance-spec =
     tie.close
@@ -16,4 +22,8 @@ advance-spec =
     (λ c κs. search needs)
     (λ c. search needs)
     advance-with-requires
-    returns)
+    returns
+    (λ c κs. search needs)
+    (λ c. search needs)
+    advance-with-requires-2
+    returns-2)

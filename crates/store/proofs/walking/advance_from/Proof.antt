@@ -2,7 +2,7 @@ use denote.Ref.{now}
 use mathlib.Core.Path.{sym, _∙_}
 use native.Mathlib.Omega.{arith}
 use Rattle.cursor.specs.StateLaws.{formed-most}
-use Rattle.store.specs.WalkStepLaws.{step-unformed, step-empty, step-first, step-no-map}
+use Rattle.store.specs.WalkStepLaws.{step-unformed, step-empty, step-first}
 use Rattle.store.specs.WalkStepLaws.{step-entry, step-on, step-done, step-refused, left-low}
 use Rattle.position.specs.Laws.{empty-zero, full-other}
 use borrow.Author.Needs.{needs}
@@ -21,39 +21,25 @@ returns c =
 
 returns-2 : tie.Need-returns-2
 returns-2 c =
-    let a = c .before .before .before .before .before .before .before .before .before .args in
-    let is-formed = c .before .before .before .before .before .before .is-formed in
-    let if1 = c .before .before .before .before .before .if1 in
-    let if2 = c .before .before .before .if2 in
-    let if3 = c .before .if3 in
-    let done = c .done in
-    step-empty (now (a .image)) (a .m .newest) (a .m .id) (a .m .kind) (a .root .bits) (a .w) (sym (is-formed .ensures .0) ∙ if1 .taken) (if2 .taken)
-    (empty-zero (c .before .before .is-empty .ensures) (if3 .taken)) (done .ensures)
+    let a = c .before .before .before .before .before .before .before .args in
+    let is-formed = c .before .before .before .before .is-formed in
+    let if1 = c .before .before .before .if1 in
+    let h = sym (is-formed .ensures .0) ∙ if1 .taken in
+    step-empty (now (a .image)) (a .m .newest) (a .m .id) (a .m .kind) (a .root .bits) (a .w) h
+    (omega (arith, formed-most (a .w) h, is-formed .ensures .1 (if1 .taken))) (empty-zero (c .before .before .is-empty .ensures) (c .before .if2 .taken))
+    (c .in-empty .ensures)
 
 returns-3 : tie.Need-returns-3
 returns-3 c =
     let a = c .before .before .before .before .before .before .before .before .before .before .before .before .before .args in
     let is-formed = c .before .before .before .before .before .before .before .before .before .before .is-formed in
     let if1 = c .before .before .before .before .before .before .before .before .before .if1 in
-    let if2 = c .before .before .before .before .before .before .before .if2 in
+    let if3 = c .before .before .before .before .before .if3 in
     let leftmost-from = c .before .before .before .leftmost-from in
     let left-step = c .left-step in
-    step-first (now (a .image)) (a .m .newest) (a .m .id) (a .m .kind) (a .root .bits) (a .w) (sym (is-formed .ensures .0) ∙ if1 .taken) (if2 .taken)
-    (let o = full-other {p = a .root .bits} (c .before .before .before .before .before .before .is-empty .ensures) (c .before .before .before .before .before .if3 .left) in omega (arith, o)) (leftmost-from .result) (leftmost-from .ensures .1) (left-step .ensures)
-
-returns-4 : tie.Need-returns-4
-returns-4 c =
-    let a = c .before .before .before .before .before .before .before .before .before .before .args in
-    let is-formed = c .before .before .before .before .before .before .before .is-formed in
-    let if1 = c .before .before .before .before .before .before .if1 in
-    let if2 = c .before .before .before .before .if2 in
-    let if4 = c .before .before .if4 in
-    let new2 = c .before .new2 in
-    let refused2 = c .refused2 in
-    let h = sym (is-formed .ensures .0) ∙ if1 .taken in
-    step-no-map (now (a .image)) (a .m .newest) (a .m .id) (a .m .kind) (a .root .bits) (a .w) h (if2 .left)
-    (omega (arith, formed-most (a .w) h, is-formed .ensures .1 (if1 .taken)))
-    (empty-zero (c .before .before .before .is-empty2 .ensures) (if4 .taken)) (new2 .ensures) (refused2 .ensures)
+    let other = full-other {p = a .root .bits} (c .before .before .before .before .before .before .before .before .is-empty .ensures) (c .before .before .before .before .before .before .before .if2 .left) in
+    step-first (now (a .image)) (a .m .newest) (a .m .id) (a .m .kind) (a .root .bits) (a .w) (sym (is-formed .ensures .0) ∙ if1 .taken) (if3 .taken)
+    (omega (arith, other)) (leftmost-from .result) (leftmost-from .ensures .1) (left-step .ensures)
 
 down-by-requires : tie.Need-down-by-requires
 down-by-requires c κs =
@@ -61,7 +47,9 @@ down-by-requires c κs =
     let pre = c .before .before .before .before .before .before .before .before .before .before .pre in
     let is-formed = c .before .before .before .before .before .before .before .is-formed in
     let if1 = c .before .before .before .before .before .before .if1 in
-    (omega arith, formed-most (a .w) (sym (is-formed .ensures .0) ∙ if1 .taken), omega (arith, formed-most (a .w) (sym (is-formed .ensures .0) ∙ if1 .taken), is-formed .ensures .1 (if1 .taken)), (let o = full-other {p = a .root .bits} (c .before .before .before .is-empty2 .ensures) (c .before .before .if4 .left) in omega (arith, o)), pre)
+    let most = formed-most (a .w) (sym (is-formed .ensures .0) ∙ if1 .taken) in
+    let other = full-other {p = a .root .bits} (c .before .before .before .before .before .is-empty .ensures) (c .before .before .before .before .if2 .left) in
+    (omega arith, most, omega (arith, most, is-formed .ensures .1 (if1 .taken)), omega (arith, other), pre)
 
 add-leftmost-from : tie.Need-add-leftmost-from
 add-leftmost-from c =
@@ -97,8 +85,8 @@ leftmost-from-requires-2 c κs =
       down-by .ensures .0,
     )
 
-returns-5 : tie.Need-returns-5
-returns-5 c =
+returns-4 : tie.Need-returns-4
+returns-4 c =
     let a = c .before .before .before .before .before .before .before .before .before .before .before .before .before .before .before .before .before .args in
     let is-formed = c .before .before .before .before .before .before .before .before .before .before .before .before .before .before .is-formed in
     let if1 = c .before .before .before .before .before .before .before .before .before .before .before .before .before .if1 in
@@ -110,8 +98,8 @@ returns-5 c =
     (omega (arith, formed-most (a .w) h, is-formed .ensures .1 (if1 .taken))) (down-by .ensures .1)
     (d .given .1) (formed-most (a .w) h) (placed .ensures)
 
-returns-6 : tie.Need-returns-6
-returns-6 c =
+returns-5 : tie.Need-returns-5
+returns-5 c =
     let a = c .before .before .before .before .before .before .before .before .before .before .before .before .before .before .before .before .before .before .before .before .before .args in
     let is-formed = c .before .before .before .before .before .before .before .before .before .before .before .before .before .before .before .before .before .before .is-formed in
     let if1 = c .before .before .before .before .before .before .before .before .before .before .before .before .before .before .before .before .before .if1 in
@@ -124,31 +112,31 @@ returns-6 c =
     (omega (arith, formed-most (a .w) h, is-formed .ensures .1 (if1 .taken))) (down-by .ensures .1)
     (d2 .given .1) (leftmost-from2 .result) (leftmost-from2 .ensures .1) (left-step2 .ensures)
 
-returns-7 : tie.Need-returns-7
-returns-7 c =
+returns-6 : tie.Need-returns-6
+returns-6 c =
     let a = c .before .before .before .before .before .before .before .before .before .before .before .before .before .before .before .before .args in
     let is-formed = c .before .before .before .before .before .before .before .before .before .before .before .before .before .is-formed in
     let if1 = c .before .before .before .before .before .before .before .before .before .before .before .before .if1 in
     let down-by = c .before .before .before .before .before .down-by in
     let enum-told = c .before .enum-told in
-    let done2 = c .done2 in
+    let done = c .done in
     let h = sym (is-formed .ensures .0) ∙ if1 .taken in
     step-done (now (a .image)) (a .m .newest) (a .m .id) (a .m .kind) (a .root .bits) (a .w) h
     (omega (arith, formed-most (a .w) h, is-formed .ensures .1 (if1 .taken))) (down-by .ensures .1)
-    (enum-told .given .1) (done2 .ensures)
+    (enum-told .given .1) (done .ensures)
 
-returns-8 : tie.Need-returns-8
-returns-8 c =
+returns-7 : tie.Need-returns-7
+returns-7 c =
     let a = c .before .before .before .before .before .before .before .before .before .before .before .before .before .before .before .before .before .args in
     let is-formed = c .before .before .before .before .before .before .before .before .before .before .before .before .before .before .is-formed in
     let if1 = c .before .before .before .before .before .before .before .before .before .before .before .before .before .if1 in
     let down-by = c .before .before .before .before .before .before .down-by in
     let d3 = c .before .before .d3 in
-    let refused3 = c .refused3 in
+    let refused2 = c .refused2 in
     let h = sym (is-formed .ensures .0) ∙ if1 .taken in
     step-refused (now (a .image)) (a .m .newest) (a .m .id) (a .m .kind) (a .root .bits) (a .w) h
     (omega (arith, formed-most (a .w) h, is-formed .ensures .1 (if1 .taken))) (down-by .ensures .1)
-    (d3 .given .1) (refused3 .ensures)
+    (d3 .given .1) (refused2 .ensures)
 
 pub advance-from-spec : {M : Type 1} → statement M
 advance-from-spec =
@@ -165,10 +153,6 @@ advance-from-spec =
     (λ c κs. search needs)
     (λ c. search needs)
     returns-3
-    (λ c κs. search needs)
-    (λ c κs. search needs)
-    (λ c κs. search needs)
-    returns-4
     down-by-requires
     (λ c. search needs)
     (λ c κs. search needs)
@@ -181,10 +165,10 @@ advance-from-spec =
     (λ c. search needs)
     (λ c κs. search needs)
     (λ c. search needs)
+    returns-4
+    (λ c. search needs)
     returns-5
     (λ c. search needs)
     returns-6
     (λ c. search needs)
-    returns-7
-    (λ c. search needs)
-    returns-8)
+    returns-7)

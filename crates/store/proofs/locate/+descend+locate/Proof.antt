@@ -1,8 +1,8 @@
 use Prim.Native.Nat.{ℕ, _+_, _*_, _-_, _<_}
-use mathlib.Core.Path.{_≡_, refl, sym, ap, _∙_}
+use mathlib.Core.Path.{_≡_, refl, sym, _∙_}
 use native.Mathlib.Omega.{arith}
 use denote.Ref.{now}
-use lib.ListN.{length, length-replicate}
+use lib.ListN.{length}
 use lib.Seq.{length-take-le}
 use borrow.Author.Needs.{needs}
 use Rattle.key.specs.Key.{keyOf}
@@ -10,7 +10,6 @@ use Rattle.metadata.specs.Keys.{chunkKey}
 use Rattle.metadata.specs.KeyLaws.{padded-text, padded-inside}
 use Rattle.position.specs.Laws.{empty-zero, full-other}
 use Rattle.store.specs.Memory.{RightWords}
-use Rattle.store.specs.MemoryLaws.{empty-right, crowded-few}
 use Rattle.store.specs.SettleLaws.{sought-few}
 use Rattle.store.specs.CycleLaws.{Came, came-root, came-on, sought-empty, sought-zero, sought-deep, sought-done}
 use Rattle.store.specs.CycleLaws.{tells-newest, tells-few, tells-recalled, tells-ninth, tells-settled}
@@ -20,33 +19,25 @@ use borrow.Fn.Kinds.{In}
 use borrow.Fn.PlainCycle.{Measures, is, falls, and}
 use Rattle.store.proofs.locate.descend.Reads as descend
 use Rattle.store.proofs.locate.descend.Kinds as descend-kinds
-use Rattle.store.proofs.locate.+descend+locate+locate_anew.Lts-descend as descend-lts
+use Rattle.store.proofs.locate.+descend+locate.Lts-descend as descend-lts
 use Rattle.store.proofs.locate.locate.Reads as locate
 use Rattle.store.proofs.locate.locate.Kinds as locate-kinds
-use Rattle.store.proofs.locate.+descend+locate+locate_anew.Lts-locate as locate-lts
-use Rattle.store.proofs.locate.locate_anew.Reads as locate-anew
-use Rattle.store.proofs.locate.locate_anew.Kinds as locate-anew-kinds
-use Rattle.store.proofs.locate.+descend+locate+locate_anew.Lts-locate_anew as locate-anew-lts
+use Rattle.store.proofs.locate.+descend+locate.Lts-locate as locate-lts
 use Rattle.position.proofs.Position.chunk.Reads as chunk-reads
 use Rattle.refusal.proofs.Refusal.new.Reads as new-reads
 use Rattle.metadata.proofs.chunk_key.Reads as chunk-key-reads
-use Rattle.store.proofs.room.is_crowded.Reads as is-crowded-reads
-use Rattle.store.proofs.room.many_words.Reads as many-words-reads
 use Rattle.memory.proofs.recall.Reads as recall-reads
 use Rattle.metadata.proofs.place_of.Reads as place-of-reads
 use Rattle.store.proofs.settle.settle.Reads as settle-reads
 use Rattle.metadata.proofs.advance_at.Reads as advance-at-reads
-use Rattle.store.proofs.locate.+descend+locate+locate_anew.{statement}
-use Rattle.store.proofs.locate.+descend+locate+locate_anew.Tie.{close}
+use Rattle.store.proofs.locate.+descend+locate.{statement}
+use Rattle.store.proofs.locate.+descend+locate.Tie.{close}
 
 abbrev μ-descend : Measures 3 descend-kinds.ps ℕ
-μ-descend κs a = 20000 * a .1 .1 .1 .1 .1 .0 + 16385
+μ-descend κs a = 2 * a .1 .1 .1 .1 .1 .0 + 1
 
 abbrev μ-locate : Measures 2 locate-kinds.ps ℕ
-μ-locate κs a = 20000 * a .1 .1 .1 .1 .0 + 2 * (8192 - length (now (a .1 .1 .0)))
-
-abbrev μ-locate-anew : Measures 1 locate-anew-kinds.ps ℕ
-μ-locate-anew κs a = 20000 * a .1 .1 .1 .0 + 1
+μ-locate κs a = 2 * a .1 .1 .1 .1 .0
 
 abbrev descend-at : ℕ → In 3 descend-kinds.ps
 descend-at t = and 3 descend-kinds.ps (is 3 descend-kinds.ps μ-descend t) descend.Pre
@@ -59,12 +50,6 @@ locate-at t = and 2 locate-kinds.ps (is 2 locate-kinds.ps μ-locate t) locate.Pr
 
 abbrev locate-below : ℕ → In 2 locate-kinds.ps
 locate-below t = and 2 locate-kinds.ps (falls 2 locate-kinds.ps _<_ μ-locate t) locate.Pre
-
-abbrev locate-anew-at : ℕ → In 1 locate-anew-kinds.ps
-locate-anew-at t = and 1 locate-anew-kinds.ps (is 1 locate-anew-kinds.ps μ-locate-anew t) locate-anew.Pre
-
-abbrev locate-anew-below : ℕ → In 1 locate-anew-kinds.ps
-locate-anew-below t = and 1 locate-anew-kinds.ps (falls 1 locate-anew-kinds.ps _<_ μ-locate-anew t) locate-anew.Pre
 
 abbrev descend-Inv-loop : descend-lts.InvT-loop
 descend-Inv-loop image memory₀ m key q newest kind p₀ need₀ left₀ memory p need left =
@@ -146,10 +131,6 @@ locate-meets : {M : Type 1} (t : ℕ) → locate-lts.Closed (
   recall-reads.Learnt,
   new-reads.Asked,
   new-reads.Learnt,
-  is-crowded-reads.Asked,
-  is-crowded-reads.Learnt,
-  locate-anew-below t,
-  locate-anew.Post,
   chunk-key-reads.Asked,
   chunk-key-reads.Learnt,
   metadata-reads.Asked,
@@ -166,10 +147,6 @@ locate-meets t = locate-lts.spec (
   recall-reads.Learnt,
   new-reads.Asked,
   new-reads.Learnt,
-  is-crowded-reads.Asked,
-  is-crowded-reads.Learnt,
-  locate-anew-below t,
-  locate-anew.Post,
   chunk-key-reads.Asked,
   chunk-key-reads.Learnt,
   metadata-reads.Asked,
@@ -204,49 +181,21 @@ locate-meets t = locate-lts.spec (
     let a = c .before .before .before .before .before .before .before .before .before .args in
     (c .before .before .before .before .before .before .before .before .before .pre .1 .1, tells-ninth (now (a .image)) (a .newest) (a .q) (a .c) (c .before .before .before .before .before .if1 .left) (c .before .if3 .taken) (c .new2 .ensures)))
     (λ c κs. search needs)
-    (λ c κs.
-    let few = crowded-few (c .before .before .before .before .recall .result) (length (now (c .before .before .before .before .before .before .before .before .before .before .args .memory))) (sym (c .before .is-crowded .ensures) ∙ c .if4 .taken) in
-    (omega (arith, few, c .before .before .before .before .before .before .before .before .before .before .pre .0), omega (arith, c .before .before .before .before .before .before .before .before .before .before .pre .1 .0)))
-    (λ c. search needs)
-    (λ c. (c .before .before .before .before .before .before .before .before .before .before .before .pre .1 .1, c .locate-anew .ensures))
     (λ c κs. search needs)
-    (λ c κs. search needs)
-    (λ c. rw (c .before .before .before .chunk-key .ensures) (padded-inside 22 (chunkKey (c .before .before .before .before .before .before .before .before .before .before .before .before .before .before .args .c))))
-    (λ c. sym (length-take-le _ _ (rw (c .before .before .before .before .chunk-key .ensures) (padded-inside 22 (chunkKey (c .before .before .before .before .before .before .before .before .before .before .before .before .before .before .before .args .c))))))
+    (λ c. rw (c .before .before .before .before .chunk-key .ensures) (padded-inside 22 (chunkKey (c .before .before .before .before .before .before .before .before .before .before .before .before .before .args .c))))
+    (λ c. sym (length-take-le _ _ (rw (c .before .before .before .before .before .chunk-key .ensures) (padded-inside 22 (chunkKey (c .before .before .before .before .before .before .before .before .before .before .before .before .before .before .args .c))))))
     (λ c. search needs)
-    (λ c κs. (omega (arith, c .before .before .before .before .before .before .before .before .before .before .before .before .before .before .before .pre .0), (omega (arith, c .before .before .before .before .before .before .before .before .before .before .before .before .before .before .before .pre .1 .0), rw (c .before .before .metadata .ensures) (c .before .before .before .before .before .before .before .before .before .before .before .before .before .before .before .pre .1 .1))))
+    (λ c κs. (omega (arith, c .before .before .before .before .before .before .before .before .before .before .before .before .before .before .pre .0), (omega (arith, c .before .before .before .before .before .before .before .before .before .before .before .before .before .before .pre .1 .0), rw (c .before .before .before .metadata .ensures) (c .before .before .before .before .before .before .before .before .before .before .before .before .before .before .pre .1 .1))))
     (λ c κs.
-    let a = c .before .before .before .before .before .before .before .before .before .before .before .before .before .before .before .before .before .before .before .args in
-    omega (arith, sought-few (now (a .image)) _ _ _ _ _ (a .q - 1) (c .before .before .before .descend .result) (c .before .before .before .descend .ensures .1), c .before .before .before .before .before .before .before .before .before .before .before .before .before .before .before .before .before .before .before .pre .1 .0))
+    let a = c .before .before .before .before .before .before .before .before .before .before .before .before .before .before .before .before .before .before .args in
+    omega (arith, sought-few (now (a .image)) _ _ _ _ _ (a .q - 1) (c .before .before .before .descend .result) (c .before .before .before .descend .ensures .1), c .before .before .before .before .before .before .before .before .before .before .before .before .before .before .before .before .before .before .pre .1 .0))
     (λ c. search needs)
     (λ c.
-    let a = c .before .before .before .before .before .before .before .before .before .before .before .before .before .before .before .before .before .before .before .before .before .before .args in
+    let a = c .before .before .before .before .before .before .before .before .before .before .before .before .before .before .before .before .before .before .before .before .before .args in
     let d = c .before .before .before .before .before .before .descend in
-    let e = rw (c .before .before .before .before .before .before .before .before .before .metadata .ensures) at (d .ensures) in
-    let key = c .before .before .before .before .before .before .before .before .before .before .before .chunk-key in
-    tells-settled (now (a .image)) (a .newest) (a .q) (a .c) _ (d .result) (c .before .before .before .before .before .before .before .before .before .before .before .before .before .before .before .before .before .before .if1 .left) (c .before .before .before .before .before .before .before .before .before .before .before .before .before .before .if3 .left) (c .before .before .before .before .before .before .before .before .before .before .before .before .before .before .before .before .before .before .before .before .before .before .pre .1 .0) (e .0) _ (rw (key .ensures) (padded-text 22 (chunkKey (a .c)))) (e .1) (c .before .before .settle .result) _ (c .before .before .settle .ensures .0) (c .before .before .settle .ensures .1))
+    let e = rw (c .before .before .before .before .before .before .before .before .before .before .metadata .ensures) at (d .ensures) in
+    let key = c .before .before .before .before .before .before .before .before .before .before .before .before .chunk-key in
+    tells-settled (now (a .image)) (a .newest) (a .q) (a .c) _ (d .result) (c .before .before .before .before .before .before .before .before .before .before .before .before .before .before .before .before .before .if1 .left) (c .before .before .before .before .before .before .before .before .before .before .before .before .before .if3 .left) (c .before .before .before .before .before .before .before .before .before .before .before .before .before .before .before .before .before .before .before .before .before .pre .1 .0) (e .0) _ (rw (key .ensures) (padded-text 22 (chunkKey (a .c)))) (e .1) (c .before .before .settle .result) _ (c .before .before .settle .ensures .0) (c .before .before .settle .ensures .1))
 
-locate-anew-meets : {M : Type 1} (t : ℕ) → locate-anew-lts.Closed (
-  many-words-reads.Asked,
-  many-words-reads.Learnt,
-  locate-below t,
-  locate.Post,
-) (locate-anew-at t) locate-anew.Post M
-locate-anew-meets t = locate-anew-lts.spec (
-  many-words-reads.Asked,
-  many-words-reads.Learnt,
-  locate-below t,
-  locate.Post,
-)
-    (locate-anew-at t)
-    locate-anew.Post
-    (λ c κs. search needs)
-    (λ c. search needs)
-    (λ c κs.
-    let a = c .before .before .before .args in
-    let e = c .before .many-words .ensures in
-    (omega (arith, c .before .before .before .pre .0, ap length e, length-replicate {A = ℕ} 8192 0), (omega (arith, c .before .before .before .pre .1), rw e (empty-right (now (a .image)) (a .newest) 8192))))
-    (λ c. c .before .locate .ensures .1)
-
-pub +descend+locate+locate-anew-spec : {M : Type 1} → statement M
-+descend+locate+locate-anew-spec = close μ-descend μ-locate μ-locate-anew descend-meets locate-meets locate-anew-meets
+pub +descend+locate-spec : {M : Type 1} → statement M
++descend+locate-spec = close μ-descend μ-locate descend-meets locate-meets
