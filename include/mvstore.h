@@ -15,7 +15,7 @@
  * 2. No state. Nothing is allocated, kept or global; there is no handle and
  *    nothing to close. Each call opens the image itself, so what it answers
  *    depends on its arguments alone, and calls may run at the same time in
- *    several threads, on the same image too. A call uses less than 124 KiB
+ *    several threads, on the same image too. A call uses less than 96 KiB
  *    of stack and no heap, so a thread that is made with 128 KiB can make it.
  *    Every call ends, but an image that was made for it can hold one up for
  *    minutes: who takes files from strangers asks under a time limit.
