@@ -14,7 +14,7 @@ use Rattle.tree.specs.WalkLaws.{prefixed}
 use Rattle.content.specs.Content.{Entry}
 use Rattle.cursor.specs.declared.Walk.{Walk}
 use Rattle.cursor.specs.Walk.{zeros, formed, leading, yieldOf, settled}
-use Rattle.cursor.specs.Steps.{placed}
+use Rattle.cursor.specs.Steps.{numbered}
 
 -- ## The places
 module _ (ps : List ℕ) (i : ℕ) where
@@ -44,8 +44,8 @@ copy-place from i h room =
 
 -- the numbers before place l, then n, then k zeros
 pub leading-placed : (w : Walk) (l n k depth : ℕ) → l ≤ length (w .places) → suc (l + k) ≡ depth → depth ≤ 16
-    → leading ((take l (w .places) ++ (n ∷ [])) ++ replicate k 0) ≡ placed (w .places) l n depth
-unfolding placed
+    → leading ((take l (w .places) ++ (n ∷ [])) ++ replicate k 0) ≡ numbered (w .places) l n depth
+unfolding numbered
 leading-placed w l n k depth few sum most =
     let t = take l (w .places) in
     let is = (t ++ (n ∷ [])) ++ replicate k 0 in

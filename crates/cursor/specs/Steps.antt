@@ -4,7 +4,7 @@
 --   firstOf .. j            the first child or entry of a page that is judged
 --   overOf found n p        what is next where a leaf has no entry more
 --   emptyStep w             the step in an empty map
---   placed from l n depth   the numbers before place l, then n, then zeros
+--   numbered from l n depth   the numbers before place l, then n, then zeros
 --   leftStep w l n m        the step to the leftmost entry m under the page that place l leads to with number n
 use Prim.Native.Nat.{ℕ, _+_, _-_}
 use mathlib.Core.Bool.{Bool, true, false, cond}
@@ -71,11 +71,11 @@ emptyStep w =
     (record { walk = closed w (unsound .number); got = yields.Refused unsound })
 
 -- where there is no place l the places are as they are
-unfoldable pub placed : List ℕ → ℕ → ℕ → ℕ → Walk
-placed from l n depth =
+unfoldable pub numbered : List ℕ → ℕ → ℕ → ℕ → Walk
+numbered from l n depth =
     record { places = cond (ltb l 16) (take l from ++ (n ∷ replicate (15 - l) 0)) from; depth = depth; last = 0 }
 
 unfoldable pub leftStep : Walk → ℕ → ℕ → Leftmost → Stepped
-leftStep w l n (leftmost.Entry depth key size at len) = record { walk = placed (w .places) l n depth; got = yields.Entry key size at len }
+leftStep w l n (leftmost.Entry depth key size at len) = record { walk = numbered (w .places) l n depth; got = yields.Entry key size at len }
 leftStep w l n leftmost.Over = record { walk = closed w doneNumber; got = yields.Done }
 leftStep w l n (leftmost.Refused r) = record { walk = closed w (r .number); got = yields.Refused r }

@@ -12,7 +12,7 @@ ghost use mathlib.Core.Path.{_≡_};
 ghost use mathlib.Core.Bool.{true};
 ghost use lib.ListN.{drop, length};
 ghost use Rattle.cursor.specs.Walk.{zeros, formed, closed, fresh, doneNumber};
-ghost use Rattle.cursor.specs.Steps.{emptyStep, placed, leftStep};
+ghost use Rattle.cursor.specs.Steps.{emptyStep, numbered, leftStep};
 
 // Child numbers from the root on and, last, the number of the entry last yielded; how many they are;
 // and the last answer's number: 0 for going on, `DONE`, or a refusal's.
@@ -126,8 +126,8 @@ pub fn is_formed(w: Walk) -> bool
 
 // The state with the numbers before place `l`, then `n`, then zeros; with the places as they are where
 // there is no place `l`.
-pub fn placed(from: [u32; 16], l: u32, n: u32, depth: u32) -> Walk
-    ensures { λ r. ⌜ r ≡ placed from l n depth ⌝ }
+pub fn numbered(from: [u32; 16], l: u32, n: u32, depth: u32) -> Walk
+    ensures { λ r. ⌜ r ≡ numbered from l n depth ⌝ }
 {
     if 16 <= l {
         return Walk {
@@ -164,7 +164,7 @@ pub fn left_step(w: Walk, l: u32, n: u32, m: Leftmost) -> Stepped
         } => {
             let places = w.places;
             Stepped {
-                walk: placed(places, l, n, depth),
+                walk: numbered(places, l, n, depth),
                 got: Yield::Entry { key, size, at, len },
             }
         }

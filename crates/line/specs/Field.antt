@@ -34,9 +34,9 @@ fieldOf p =
     let n = span isLetter p in
     cond (within 1 16 n && eqb (getD p n 0) colon) (valued (take n p) (hexOf (drop (suc n) p))) none
 
-abbrev pub placed : ℕ → ℕ → Option Field → Part
-placed i n none = part.Bad
-placed i n (some f) = part.Field (i + length (f .name)) (f .value) (i + n)
+abbrev pub partBy : ℕ → ℕ → Option Field → Part
+partBy i n none = part.Bad
+partBy i n (some f) = part.Field (i + length (f .name)) (f .value) (i + n)
 
 unfoldable pub partAt : List ℕ → ℕ → Part
-partAt line i = placed i (length (partFrom line i)) (fieldOf (partFrom line i))
+partAt line i = partBy i (length (partFrom line i)) (fieldOf (partFrom line i))

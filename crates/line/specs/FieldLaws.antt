@@ -17,7 +17,7 @@ use Rattle.numeral.specs.Hex.{hexOf}
 use Rattle.line.specs.declared.field.Part.the-variants as part
 use Rattle.names.specs.Names.{comma, partFrom, nameOf}
 use Rattle.names.specs.PartsLaws.{length-part, length-name}
-use Rattle.line.specs.Field.{Field, colon, valued, fieldOf, placed, partAt}
+use Rattle.line.specs.Field.{Field, colon, valued, fieldOf, partBy, partAt}
 
 -- ## A field and the part that it is
 pub record Named (p : List ℕ) (f : Field) : Type 0 where
@@ -60,7 +60,7 @@ pub part-bad : (line : List ℕ) (i : ℕ) → part.Bad ≡ partAt line i → fi
 unfolding partAt
 part-bad line i e = go (fieldOf (partFrom line i)) e
   where
-    go : (o : Option Field) → part.Bad ≡ placed i (length (partFrom line i)) o → o ≡ none
+    go : (o : Option Field) → part.Bad ≡ partBy i (length (partFrom line i)) o → o ≡ none
     go none e = refl
     go (some f) e = cc
 
@@ -78,7 +78,7 @@ part-placed {line} {i} {colon} {value} {end} e = go (fieldOf p) refl e
     p : List ℕ
     p = partFrom line i
 
-    go : (o : Option Field) → fieldOf p ≡ o → part.Field colon value end ≡ placed i (length p) o → Placed line i colon value end
+    go : (o : Option Field) → fieldOf p ≡ o → part.Field colon value end ≡ partBy i (length p) o → Placed line i colon value end
     go none q e = absurd (true≢false cc)
     go (some f) q e =
         let named = field-named p f q in

@@ -42,12 +42,12 @@ kindOf (suc zero) = ok Text
 kindOf (suc (suc n)) = refuse badArgument
 
 -- "map 0 with kind 0; map id above 2^31-1"
-abbrev pub idOf : ℕ → Kind → Outcome (ℕ × Kind)
-idOf map Number = branch (within 1 0x7fffffff map) (ok (map, Number)) (refuse badArgument)
-idOf map Text = branch (leb map 0x7fffffff) (ok (map, Text)) (refuse badArgument)
+abbrev pub askedId : ℕ → Kind → Outcome (ℕ × Kind)
+askedId map Number = branch (within 1 0x7fffffff map) (ok (map, Number)) (refuse badArgument)
+askedId map Text = branch (leb map 0x7fffffff) (ok (map, Text)) (refuse badArgument)
 
 unfoldable pub askedMap : ℕ → ℕ → Outcome (ℕ × Kind)
-askedMap map kind = bind (kindOf kind) (idOf map)
+askedMap map kind = bind (kindOf kind) (askedId map)
 
 -- "key badly formed (kind 0 given as bytes: not 8)"
 unfoldable pub keyed : List ℕ → ℕ × Kind → Outcome (ℕ × Kind)

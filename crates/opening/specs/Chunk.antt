@@ -31,8 +31,8 @@ fitting blocks b r =
     (eqb (value r nameBlock) b && (leb 1 (value r nameLen) && leb (b + value r nameLen) blocks))
 
 -- what the header says; its pages begin after its newline
-abbrev pub chunkOf : ℕ → Reading → Chunk
-chunkOf b r =
+abbrev pub chunkBy : ℕ → Reading → Chunk
+chunkBy b r =
     record {
       id = value r nameChunk;
       block = b;
@@ -55,7 +55,7 @@ footed image c = cond (footerOf c (footerLine image (c .block + c .len))) (Stand
 unfoldable pub saidAt : List ℕ → ℕ → Standing
 saidAt image b =
     let r = chunkLine image b in
-    cond (leb 2 b && (needed r && fitting (blocksIn image) b r)) (Stands (chunkOf b r)) Nothing
+    cond (leb 2 b && (needed r && fitting (blocksIn image) b r)) (Stands (chunkBy b r)) Nothing
 
 abbrev pub withFooter : List ℕ → Standing → Standing
 withFooter image Nothing = Nothing

@@ -12,7 +12,7 @@ use Rattle.opening.specs.declared.chunk.Chunk.{Chunk}
 use Rattle.opening.specs.declared.chunk.Standing.{Standing}
 use Rattle.opening.specs.declared.chunk.Standing.the-variants.{Stands, Nothing}
 use Rattle.opening.specs.Image.{blocksIn, chunkLine, footerLine, value}
-use Rattle.opening.specs.Chunk.{needed, fitting, chunkOf, footerOf, footed, saidAt, withFooter, standsAt}
+use Rattle.opening.specs.Chunk.{needed, fitting, chunkBy, footerOf, footed, saidAt, withFooter, standsAt}
 use Rattle.opening.specs.ImageLaws.{blocks-most, newline-small}
 
 -- ## A header that fits its block
@@ -73,7 +73,7 @@ module _ (image : List ℕ) (b : ℕ) where
       go false q u n = rw q
 
   pub said-fit : 2 ≤ b → needed (chunkLine image b) ≡ true → fitting (blocksIn image) b (chunkLine image b) ≡ true →
-      saidAt image b ≡ Stands (chunkOf b (chunkLine image b))
+      saidAt image b ≡ Stands (chunkBy b (chunkLine image b))
   unfolding saidAt
   said-fit h n e = rw (le-leb 2 b h, n, e)
 
@@ -100,7 +100,7 @@ module _ (image : List ℕ) (b : ℕ) {c : Chunk} (s : saidAt image b ≡ Stands
       go true q false n v f = absurd (never (said-unneeded image b n))
       go false q u n v f = absurd (never (said-header image b (leb-false 2 b q)))
 
-  said-chunk : chunkOf b (chunkLine image b) ≡ c
+  said-chunk : chunkBy b (chunkLine image b) ≡ c
   said-chunk = let t = said-told in let e = sym (said-fit image b (t .0) (t .1) (t .2)) ∙ s in cc
 
   pub said-inside : c .block + c .len ≤ blocksIn image
@@ -138,7 +138,7 @@ pub record Stood (image : List ℕ) (c : Chunk) : Type 0 where
   pub first-small : c .first ≤ 1024
 
 module _ (image : List ℕ) (b : ℕ) {c : Chunk} (s : standsAt image b ≡ Stands c) where
-  stands-chunk : chunkOf b (chunkLine image b) ≡ c
+  stands-chunk : chunkBy b (chunkLine image b) ≡ c
   stands-chunk = said-chunk image b (stands-said image b s)
 
   pub stands-block : c .block ≡ b

@@ -7,7 +7,7 @@ use line::Fields;
 use position::Position;
 ghost use Prim.Native.Nat.{_+_, _^_, _<_};
 ghost use mathlib.Core.Path.{_≡_};
-ghost use Rattle.opening.specs.Chunk.{needed, fitting, chunkOf, footerOf, footed, standsAt, saidAt};
+ghost use Rattle.opening.specs.Chunk.{needed, fitting, chunkBy, footerOf, footed, standsAt, saidAt};
 ghost use Rattle.opening.specs.ChunkLaws.{Small};
 
 // A chunk that stands. `block` and `len` count blocks; `first` is the byte of the chunk at which its
@@ -62,7 +62,7 @@ fn fits(blocks: u32, b: u32, r: Reading) -> bool
 // The chunk that a header says; its pages begin after the header's newline.
 fn chunk_of(b: u32, r: Reading) -> Chunk
     requires { ⌜ Small r ⌝ }
-    ensures { λ x. ⌜ x ≡ chunkOf b r ⌝ }
+    ensures { λ x. ⌜ x ≡ chunkBy b r ⌝ }
 {
     Chunk {
         id: r.value(Fields::CHUNK) as u32,

@@ -29,7 +29,7 @@ use Rattle.cursor.specs.declared.follow.Down.the-variants as down
 use Rattle.cursor.specs.declared.follow.Leftmost.{Leftmost}
 use Rattle.cursor.specs.declared.follow.Leftmost.the-variants as leftmost
 use Rattle.cursor.specs.Walk.{formed, numbers, leading, closed, doneNumber, settled, movedBy}
-use Rattle.cursor.specs.Steps.{emptyStep, placed, leftStep}
+use Rattle.cursor.specs.Steps.{emptyStep, numbered, leftStep}
 use Rattle.cursor.specs.StateLaws.{leading-placed, settled-prefixed}
 use Rattle.store.specs.Store.{reader, mapRoot}
 use Rattle.store.specs.Walk.{stepIn}
@@ -81,12 +81,12 @@ module _ (image : List ℕ) (newest : Chunk) (map : ℕ) (kind : Kind) (root : �
     step-left : (l n p : ℕ) (pre : List ℕ) (m : Leftmost)
         → mapNext (reader image newest map kind) (take (w .depth) (w .places)) root ≡ leftmostAt (reader image newest map kind) pre 0 p
         → EndsLeft image newest map kind (length pre) p m
-        → ((k depth : ℕ) → suc (length pre + k) ≡ depth → depth ≤ 16 → leading ((pre ++ replicate k 0) ++ (0 ∷ [])) ≡ placed (w .places) l n depth)
+        → ((k depth : ℕ) → suc (length pre + k) ≡ depth → depth ≤ 16 → leading ((pre ++ replicate k 0) ++ (0 ∷ [])) ≡ numbered (w .places) l n depth)
         → leftStep w l n m ≡ settled w (movedBy (reader image newest map kind) root (numbers w))
     unfolding leftStep EndsLeft settled
     step-left l n p pre (leftmost.Entry depth key size at len) e c lead =
         let k = depth - 1 - length pre in
-        let there : leading ((pre ++ replicate k 0) ++ (0 ∷ [])) ≡ placed (w .places) l n depth = lead k depth (omega (arith, c .2)) (c .3) in
+        let there : leading ((pre ++ replicate k 0) ++ (0 ∷ [])) ≡ numbered (w .places) l n depth = lead k depth (omega (arith, c .2)) (c .3) in
         (λ j. record { walk = sym there j; got = sym (c .1) j })
         ∙ sym (settled-prefixed w (pre ++ replicate k 0) (c .0) 0) ∙ step-by (e ∙ c .4 pre refl)
     step-left l n p pre leftmost.Over e c lead = step-by (e ∙ c pre refl)
@@ -101,13 +101,13 @@ module _ (image : List ℕ) (newest : Chunk) (map : ℕ) (kind : Kind) (root : �
     module _ (few : w .depth ≤ length (w .places)) where
       step-entry-at : (l n key size at len : ℕ)
           → EndsDown image newest map kind (take (w .depth) (w .places)) root (down.Entry l n key size at len) → w .depth ≤ 16
-          → {x : Walk} → x ≡ placed (w .places) l n (w .depth)
+          → {x : Walk} → x ≡ numbered (w .places) l n (w .depth)
           → record { walk = x; got = yields.Entry key size at len } ≡ settled w (movedBy (reader image newest map kind) root (numbers w))
       unfolding EndsDown
       step-entry-at l n key size at len c most {x} e =
           let nums = take (w .depth) (w .places) in
           let long : length nums ≡ w .depth = length-take-le (w .depth) (w .places) few in
-          let there : leading (take l nums ++ (n ∷ [])) ≡ placed (w .places) l n (w .depth) =
+          let there : leading (take l nums ++ (n ∷ [])) ≡ numbered (w .places) l n (w .depth) =
           rw (take-take l (w .depth) (w .places) (omega (arith, long, c .2)), sym (append-nil (take l (w .places) ++ (n ∷ []))))
           (leading-placed w l n 0 (w .depth) (omega (arith, long, c .2)) (omega (arith, long, c .2)) most) in
           (λ j. record { walk = (e ∙ sym there) j; got = sym (c .1) j }) ∙ sym (settled-prefixed w (take l nums) (c .0) n) ∙ step-by (c .4)
@@ -128,7 +128,7 @@ module _ (image : List ℕ) (newest : Chunk) (map : ℕ) (kind : Kind) (root : �
 
       module _ {d : Down} (c : EndsDown image newest map kind (take (w .depth) (w .places)) root d) where
         pub step-entry : {l n key size at len : ℕ} → d ≡ down.Entry l n key size at len → w .depth ≤ 16
-            → {x : Walk} → x ≡ placed (w .places) l n (w .depth)
+            → {x : Walk} → x ≡ numbered (w .places) l n (w .depth)
             → record { walk = x; got = yields.Entry key size at len } ≡ settled w (movedBy (reader image newest map kind) root (numbers w))
         step-entry {l} {n} {key} {size} {at} {len} i most e = step-entry-at l n key size at len (rw i at c) most e
 

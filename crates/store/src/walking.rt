@@ -12,7 +12,7 @@ use cursor::Walk;
 use cursor::Yield;
 use cursor::is_formed;
 use cursor::left_step;
-use cursor::placed;
+use cursor::numbered;
 use key::Kind;
 use metadata::Root;
 use opening::Chunk;
@@ -50,7 +50,7 @@ fn advance_from(image: &[u8], memory: &mut [u64], m: Map, root: Position, w: Wal
             at,
             len,
         } => Stepped {
-            walk: placed(places, level, number, w.depth),
+            walk: numbered(places, level, number, w.depth),
             got: Yield::Entry { key, size, at, len },
         },
         Down::Left {

@@ -6,7 +6,7 @@ use Rattle.cursor.proofs.left_step.Tie as tie
 
 returns : tie.Need-returns
 unfolding leftStep
-returns c = rw (c .before .before .before .m .given .1, c .placed .ensures)
+returns c = rw (c .before .before .before .m .given .1, c .numbered .ensures)
 
 returns-2 : tie.Need-returns-2
 unfolding leftStep

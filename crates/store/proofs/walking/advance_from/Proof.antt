@@ -92,11 +92,11 @@ returns-4 c =
     let if1 = c .before .before .before .before .before .before .before .before .before .before .before .before .before .if1 in
     let down-by = c .before .before .before .before .before .before .down-by in
     let d = c .before .before .d in
-    let placed = c .placed in
+    let numbered = c .numbered in
     let h = sym (is-formed .ensures .0) ∙ if1 .taken in
     step-entry (now (a .image)) (a .m .newest) (a .m .id) (a .m .kind) (a .root .bits) (a .w) h
     (omega (arith, formed-most (a .w) h, is-formed .ensures .1 (if1 .taken))) (down-by .ensures .1)
-    (d .given .1) (formed-most (a .w) h) (placed .ensures)
+    (d .given .1) (formed-most (a .w) h) (numbered .ensures)
 
 returns-5 : tie.Need-returns-5
 returns-5 c =

@@ -4,11 +4,11 @@ use mathlib.Core.List.{_++_}
 use native.Mathlib.Omega.{arith}
 use lib.ListN.{take, replicate, set, getD}
 use borrow.Author.Tests.{lt-ltb, le-ltb}
-use Rattle.cursor.specs.Steps.{placed}
+use Rattle.cursor.specs.Steps.{numbered}
 use Rattle.cursor.specs.StateLaws.{set-place, copy-place}
 use borrow.Author.Needs.{needs}
-use Rattle.cursor.proofs.placed.Statement.{statement}
-use Rattle.cursor.proofs.placed.Tie as tie
+use Rattle.cursor.proofs.numbered.Statement.{statement}
+use Rattle.cursor.proofs.numbered.Tie as tie
 
 abbrev Inv-loop : tie.InvT-loop
 Inv-loop l n depth from places₀ i₀ places i =
@@ -18,7 +18,7 @@ abbrev μ-loop : tie.MeasureT-loop
 μ-loop l n depth from places₀ i₀ places i = l - i
 
 returns : tie.Need-returns Inv-loop μ-loop
-unfolding placed
+unfolding numbered
 returns c =
     let a = c .before .args in
     rw (le-ltb (a .l) 16 (c .if1 .taken))
@@ -33,7 +33,7 @@ loop-again c =
     (omega arith, ap (λ ps. set ps (t .i) (getD from (t .i) 0)) (t .inv .1) ∙ copy-place from (t .i) (omega arith) (omega arith))
 
 returns-2 : tie.Need-returns-2 Inv-loop μ-loop
-unfolding placed
+unfolding numbered
 returns-2 c =
     let a = c .before .before .before .args in
     let t = c .before .loop in
@@ -43,8 +43,8 @@ returns-2 c =
     let there = ap (λ ps. set ps l (a .n)) at ∙ set-place (a .t1) l (a .n) (omega arith) (omega arith) in
     rw (lt-ltb l 16 (omega arith)) (λ j. record { places = there j; depth = a .depth; last = 0 })
 
-pub placed-spec : {M : Type 1} → statement M
-placed-spec =
+pub numbered-spec : {M : Type 1} → statement M
+numbered-spec =
     tie.close
     (tie.spec
     Inv-loop
