@@ -6,7 +6,7 @@ ghost use lib.ListN.{replicate};
 // An image of fewer bytes has fewer than 256 blocks, and few words have room for its chunks.
 pub(crate) const SMALL: usize = 1048576;
 
-// Room for 256 chunks, in 8 KiB.
+// Room for 256 chunks, in 4 KiB.
 pub(crate) fn few_words() -> [u64; 512]
     ensures { λ r. ⌜ r ≡ replicate 512 0 ⌝ }
 {
