@@ -9,7 +9,7 @@ use mathlib.Core.Bool.{Bool, true, false, cond}
 use mathlib.Core.List.{List, [], _∷_}
 use native.Mathlib.Numerals.{add-one}
 use native.Mathlib.Omega.{arith}
-use borrow.Author.Tests.{lt-ltb, le-ltb, ltb-true, ltb-false, eqb-false}
+use borrow.Author.Tests.{lt-ltb, le-ltb, ltb-true, ltb-false, eqb-false, ne-eqb}
 use lib.Dec.{eqb, ltb}
 use lib.ListN.{length, getD, drop, length-drop, drop-of-length-le}
 use lib.Seq.{drop-cons}
@@ -92,19 +92,15 @@ varAt-fits limit low s i h l =
     go (Read v next) b = omega arith
     go Bad b = tt
 
--- ## A number whose second byte is the last
-module _ (limit : ℕ) (s : List ℕ) (i : ℕ) (h : i + 1 < length s) (l : getD s i 0 < limit) (a : 128 ≤ getD s i 0)
-    (b : getD s (i + 1) 0 < 128) (m : getD s (i + 1) 0 < (limit - (getD s i 0 - 128) - 1) / 128 + 1) where
-  second : varAt ((limit - (getD s i 0 - 128) - 1) / 128 + 1) s (i + 1) ≡ Read (getD s (i + 1) 0) (i + 2)
-  second =
-      varAt-last ((limit - (getD s i 0 - 128) - 1) / 128 + 1) s (i + 1) h m b
-      ∙ ap (λ (n : ℕ). Read (getD s (i + 1) 0) n) (omega arith)
-
-  pub varAt-pair : varAt limit s i ≡ continued (getD s i 0 - 128) (Read (getD s (i + 1) 0) (i + 2))
-  varAt-pair = varAt-more limit s i (omega arith) l a ∙ rw second
-
-  pub pair-fits : limit ≤ 2 ^ 64 → Fits64 (continued (getD s i 0 - 128) (Read (getD s (i + 1) 0) (i + 2)))
-  pair-fits few = rw (← second) (varAt-fits limit (getD s i 0 - 128) s (i + 1) (omega arith) few)
+-- ## A number of two bytes
+pub varAt-pair : (limit : ℕ) (s : List ℕ) (i : ℕ) → i + 1 < length s → 128 ≤ getD s i 0 → 0 < getD s (i + 1) 0 → getD s (i + 1) 0 < 128
+    → getD s (i + 1) 0 * 128 + (getD s i 0 - 128) < limit → varAt limit s i ≡ Read (getD s (i + 1) 0 * 128 + (getD s i 0 - 128)) (i + 2)
+unfolding continued
+varAt-pair limit s i h a z b l =
+    let low = getD s i 0 - 128 in
+    let last = varAt-last ((limit - low - 1) / 128 + 1) s (i + 1) (omega arith) (omega arith) b in
+    let past : i + 1 + 1 ≡ i + 2 = omega arith in
+    varAt-more limit s i (omega arith) (omega arith) a ∙ rw (last, past, ne-eqb (getD s (i + 1) 0) 0 (λ e. omega arith))
 
 abbrev Inside : ℕ → ℕ → Numeral → Type 0
 Inside low high (Read v next) = (low < next) × (next ≤ high)

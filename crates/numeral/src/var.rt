@@ -23,8 +23,7 @@ fn join(low: u64, rest: Numeral) -> Numeral
 }
 
 // The number at `at`, if it is below `limit`. What follows the first byte has its own limit, which
-// falls to 1 after ten bytes at most: no run of bytes makes this long. A number of two bytes takes no
-// further call.
+// falls to 1 after ten bytes at most: no run of bytes makes this long.
 fn any_var(s: &[u8], at: usize, limit: u64) -> Numeral
     ensures { λ r. ⌜ r ≡ varAt limit (now (s .entry)) at ⌝ }
 {
@@ -42,23 +41,11 @@ fn any_var(s: &[u8], at: usize, limit: u64) -> Numeral
         };
     }
     let low = b - 128;
-    let rest = (limit - low - 1) / 128 + 1;
-    if at + 1 < s.len() {
-        let c = s[at + 1] as u64;
-        if c < 128 {
-            if c < rest {
-                let last = Numeral::Read {
-                    value: c,
-                    next: at + 2,
-                };
-                return join(low, last);
-            }
-        }
-    }
-    join(low, any_var(s, at + 1, rest))
+    join(low, any_var(s, at + 1, (limit - low - 1) / 128 + 1))
 }
 
-// The same. Most numbers have one byte, and those take no further call.
+// The same. Most numbers have one byte or two, and those take no further call: one that hands a slice
+// on takes longer than all the rest.
 pub fn read_var(s: &[u8], at: usize, limit: u64) -> Numeral
     ensures { λ r. ⌜ r ≡ varAt limit (now (s .entry)) at ⌝ }
 {
@@ -70,6 +57,19 @@ pub fn read_var(s: &[u8], at: usize, limit: u64) -> Numeral
                     value: b,
                     next: at + 1,
                 };
+            }
+        } else if at + 1 < s.len() {
+            let c = s[at + 1] as u64;
+            let value = c * 128 + (b - 128);
+            if 0 < c {
+                if c < 128 {
+                    if value < limit {
+                        return Numeral::Read {
+                            value,
+                            next: at + 2,
+                        };
+                    }
+                }
             }
         }
     }

@@ -1,12 +1,11 @@
 -- The measure is the limit: what follows a byte has a lower one.
-use Prim.Native.Nat.{ℕ, _+_, _<_}
-use mathlib.Core.Path.{sym, _∙_}
+use Prim.Native.Nat.{ℕ, _<_}
+use mathlib.Core.Path.{sym}
 use native.Mathlib.Omega.{arith}
-use denote.Ref.{now}
 use borrow.Author.Needs.{needs}
 use borrow.Fn.Kinds.{In}
 use borrow.Fn.PlainCycle.{Measures, is, falls, and}
-use Rattle.numeral.specs.VarLaws.{varAt-past, varAt-over, varAt-last, varAt-more, varAt-fits, varAt-pair, pair-fits}
+use Rattle.numeral.specs.VarLaws.{varAt-past, varAt-over, varAt-last, varAt-more, varAt-fits}
 use Rattle.numeral.proofs.var.any_var.Reads as any-var
 use Rattle.numeral.proofs.var.any_var.Kinds as any-var-kinds
 use Rattle.numeral.proofs.var.+any_var.Lts-any_var as any-var-lts
@@ -26,10 +25,10 @@ any-var-below t =
 
 pub +any-var-spec : {M : Type 1} → statement M
 +any-var-spec = close μ-any-var λ t. any-var-lts.spec (
-  join-reads.Asked,
-  join-reads.Learnt,
   any-var-below t,
   any-var.Post,
+  join-reads.Asked,
+  join-reads.Learnt,
 )
     (any-var-at t)
     any-var.Post
@@ -43,17 +42,6 @@ pub +any-var-spec : {M : Type 1} → statement M
     (λ c. search needs)
     (λ c. search needs)
     (λ c. search needs)
-    (λ c. search needs)
-    (λ c. search needs)
-    (λ c. omega (arith, c .shared-slice-known3 .given (c .before .before .before .before .before .before .before .args .at + 1)))
-    (λ c. search needs)
-    (λ c κs.
-    let a = c .before .before .before .before .before .before .before .before .before .args in
-    pair-fits (a .limit) (now (a .s)) (a .at) (omega arith) (omega arith) (omega arith) (omega arith) (omega arith) (omega arith))
-    (λ c.
-    let a = c .before .before .before .before .before .before .before .before .before .before .args in
-    c .join .ensures ∙ sym (varAt-pair (a .limit) (now (a .s)) (a .at) (omega arith) (omega arith) (omega arith) (omega arith) (omega arith)))
-    (λ c. search needs)
     (λ c κs. (omega arith, tt))
     (λ c κs. rw (c .any-var .ensures) (varAt-fits _ _ _ _ (omega arith) (omega arith)))
-    (λ c. rw (c .join2 .ensures, c .before .any-var .ensures) (sym (varAt-more _ _ _ (omega arith) (omega arith) (omega arith))))
+    (λ c. rw (c .join .ensures, c .before .any-var .ensures) (sym (varAt-more _ _ _ (omega arith) (omega arith) (omega arith))))
