@@ -19,7 +19,7 @@ use Rattle.key.specs.Key.{Key, keyOf, wellFormed, compareKeys}
 use Rattle.tree.specs.Asking.{mapEntries}
 use Rattle.tree.specs.Sound.{Sound}
 use Rattle.tree.specs.Examination.{Report}
-use Rattle.opening.specs.declared.chunk.Chunk.{Chunk}
+use Rattle.chunk.specs.declared.Chunk.{Chunk}
 use Rattle.content.specs.Content.{Entry, keyIn}
 use Rattle.store.specs.Store.{reader, mapRoot}
 use Rattle.map.specs.Map.{askedMap, openedStore, lookupOf, indexOf, countOf}

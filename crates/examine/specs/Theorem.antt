@@ -16,7 +16,7 @@ use Rattle.tree.specs.ListLaws.{all-member}
 use Rattle.tree.specs.Examination.{mapExamine}
 use Rattle.tree.specs.Demand3.{Passes as PassesTree}
 use Rattle.tree.specs.Theorem.{examined, passed-answers, passed-entries}
-use Rattle.opening.specs.declared.chunk.Chunk.{Chunk}
+use Rattle.chunk.specs.declared.Chunk.{Chunk}
 use Rattle.content.specs.Content.{Entry}
 use Rattle.store.specs.Store.{reader}
 use Rattle.store.specs.Asking.{inMap, lookupIn, indexIn, countIn}

@@ -10,7 +10,7 @@ use Rattle.key.specs.Key.{Key}
 use Rattle.tree.specs.Page.{All}
 use Rattle.tree.specs.OutcomeLaws.{refuse-ok}
 use Rattle.tree.specs.Walk.{Moved, yield, over, stop}
-use Rattle.opening.specs.declared.chunk.Chunk.{Chunk}
+use Rattle.chunk.specs.declared.Chunk.{Chunk}
 use Rattle.opening.specs.declared.Opened.{Opened}
 use Rattle.opening.specs.declared.Opened.the-variants as opened
 use Rattle.opening.specs.Opening.{opened}

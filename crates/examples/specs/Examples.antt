@@ -29,7 +29,7 @@ use Rattle.key.specs.Key.{text, keyOf, compareKeys}
 use Rattle.tree.specs.Page.{All}
 use Rattle.opening.specs.declared.header.Copy.{Copy}
 use Rattle.opening.specs.declared.header.Copy.the-variants.{Names, Plain, NoCopy}
-use Rattle.opening.specs.Image.{headerLine}
+use Rattle.chunk.specs.Image.{headerLine}
 use Rattle.opening.specs.Opening.{formatRight, namesAll, namesAny, copyOf}
 
 pub data Answer : Type 0 where

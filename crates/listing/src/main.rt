@@ -1,10 +1,10 @@
 // The listing: reads an image from standard input, examines map `forces`, kind 0, and lists it in
 // decimal; or prints only `refused N`. The image is opened once and walked once.
+use chunk::Chunk;
 use cursor::Walk;
 use cursor::Yield;
 use key::Kind;
 use metadata::Id;
-use opening::Chunk;
 use opening::Opened;
 use refusal::Refusal;
 use soundness::Examined;

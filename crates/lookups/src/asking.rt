@@ -1,8 +1,8 @@
 // The questions about an image.
 use super::output;
+use chunk::Chunk;
 use key::Kind;
 use metadata::Located;
-use opening::Chunk;
 use opening::Opened;
 use position::Position;
 use refusal::Refusal;

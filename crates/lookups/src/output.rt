@@ -1,8 +1,8 @@
 // What a question is answered.
+use chunk::Chunk;
 use metadata::Id;
 use metadata::Located;
 use metadata::Root;
-use opening::Chunk;
 use page::Judged;
 use refusal::Refusal;
 

@@ -20,12 +20,12 @@ use Rattle.numeral.specs.Hex.{hexOf}
 use Rattle.line.specs.declared.read.Fields.{Fields}
 use Rattle.line.specs.Fields.{nameBlock, readOf}
 use Rattle.tree.specs.Page.{branch}
-use Rattle.opening.specs.declared.chunk.Chunk.{Chunk}
-use Rattle.opening.specs.declared.chunk.Standing.{Standing}
-use Rattle.opening.specs.declared.chunk.Standing.the-variants.{Stands, Nothing}
-use Rattle.opening.specs.Names.{givenOf, valueOf}
-use Rattle.opening.specs.Chunk.{standsAt}
-use Rattle.opening.specs.Opening.{kept, hasId}
+use Rattle.chunk.specs.declared.Chunk.{Chunk}
+use Rattle.chunk.specs.declared.Standing.{Standing}
+use Rattle.chunk.specs.declared.Standing.the-variants.{Stands, Nothing}
+use Rattle.chunk.specs.Names.{givenOf, valueOf}
+use Rattle.chunk.specs.Chunk.{standsAt}
+use Rattle.chunk.specs.Chunk.{kept, hasId}
 use Rattle.item.specs.Item.{Spot}
 use Rattle.page.specs.declared.Place.{Place}
 use Rattle.content.specs.Content.{Entry}

@@ -3,6 +3,8 @@
 mod descent;
 mod keys;
 
+use chunk::Chunk;
+use chunk::Standing;
 pub use descent::Advance;
 pub use descent::Step;
 pub use descent::advance_at;
@@ -14,8 +16,6 @@ pub use keys::name_key;
 pub use keys::root_key;
 use line::Fields;
 use numeral::Number;
-use opening::Chunk;
-use opening::Standing;
 use page::Place;
 use position::Position;
 use refusal::Refusal;
@@ -72,11 +72,11 @@ pub fn place_of(c: Chunk) -> Place
 pub fn standing_by(image: &[u8], n: u32, at: usize, len: usize) -> Standing
     ensures { λ r. ⌜ r ≡ standingBy (now (image .entry)) n (record { at = at; len = len }) ⌝ }
 {
-    let f = line::read_fields(opening::area_at(image, at, len));
+    let f = line::read_fields(chunk::area_at(image, at, len));
     let given = f.given;
     let values = f.values;
     if given[Fields::BLOCK] {
-        opening::with_id(opening::stands_at(image, values[Fields::BLOCK]), n as u64)
+        chunk::with_id(chunk::stands_at(image, values[Fields::BLOCK]), n as u64)
     } else {
         Standing::Nothing
     }
@@ -123,7 +123,7 @@ pub fn id_by(image: &[u8], f: Answer) -> Id
 {
     match f {
         Answer::Found { at, len, need: _ } => {
-            id_of(numeral::read_hex(opening::area_at(image, at, len)))
+            id_of(numeral::read_hex(chunk::area_at(image, at, len)))
         }
         Answer::Absent { need: _ } => Id::Refused(Refusal::new(Refusal::NO_SUCH_NAME)),
         Answer::Refused(r) => Id::Refused(r),
@@ -145,7 +145,7 @@ pub fn root_by(image: &[u8], f: Answer) -> Root
 {
     match f {
         Answer::Found { at, len, need: _ } => {
-            root_of(numeral::read_hex(opening::area_at(image, at, len)))
+            root_of(numeral::read_hex(chunk::area_at(image, at, len)))
         }
         Answer::Absent { need: _ } => Root::At(Position {
             bits: Position::EMPTY,

@@ -9,13 +9,13 @@ use mathlib.Core.List.{List}
 use native.Mathlib.Omega.{arith}
 use borrow.Author.Tests.{ltb-true, ltb-false, lt-ltb, le-ltb}
 use lib.Dec.{ltb}
-use Rattle.opening.specs.declared.chunk.Chunk.{Chunk}
-use Rattle.opening.specs.declared.chunk.Standing.{Standing}
-use Rattle.opening.specs.declared.chunk.Standing.the-variants.{Stands, Nothing}
-use Rattle.opening.specs.Image.{blocksIn}
-use Rattle.opening.specs.Chunk.{standsAt}
-use Rattle.opening.specs.Opening.{kept, newer, successor, onStanding, chain}
-use Rattle.opening.specs.ChunkLaws.{Stood, stands-block, stands-stood}
+use Rattle.chunk.specs.declared.Chunk.{Chunk}
+use Rattle.chunk.specs.declared.Standing.{Standing}
+use Rattle.chunk.specs.declared.Standing.the-variants.{Stands, Nothing}
+use Rattle.chunk.specs.Image.{blocksIn}
+use Rattle.chunk.specs.Chunk.{standsAt}
+use Rattle.opening.specs.Opening.{newer, successor, onStanding, chain}
+use Rattle.chunk.specs.ChunkLaws.{Stood, stands-block, stands-stood, kept-told}
 
 unfoldable pub counted : Standing → ℕ → ℕ
 counted Nothing v = 0
@@ -24,15 +24,6 @@ counted (Stands c) v = cond (newer v c) 1 0
 unfoldable pub above : List ℕ → ℕ → ℕ → ℕ
 above image v zero = 0
 above image v (suc n) = counted (standsAt image n) v + above image v n
-
--- ## A chunk that is kept
-pub kept-told : (P : Chunk → Bool) (s : Standing) {d : Chunk} → kept P s ≡ Stands d → (s ≡ Stands d) × (P d ≡ true)
-kept-told P Nothing e = (e, cc)
-kept-told P (Stands c) {d} e = go (P c) refl e
-  where
-    go : (t : Bool) → P c ≡ t → cond t (Stands c) Nothing ≡ Stands d → (Stands c ≡ Stands d) × (P d ≡ true)
-    go true q e = let s : c ≡ d = cc in (e, rw s at q)
-    go false q e = (cc, cc)
 
 -- ## How many are newer
 module _ (v : ℕ) where

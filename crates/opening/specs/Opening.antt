@@ -16,16 +16,16 @@ use mathlib.Core.List.{List}
 use lib.Dec.{eqb, ltb}
 use Rattle.refusal.specs.Refusal.{badImageSize, noHeader, noStart}
 use Rattle.line.specs.Fields.{nameH, nameBlockSize, nameFormat, nameBlock, nameChunk, nameVersion}
-use Rattle.opening.specs.declared.image.Reading.{Reading}
-use Rattle.opening.specs.declared.chunk.Chunk.{Chunk}
-use Rattle.opening.specs.declared.chunk.Standing.{Standing}
-use Rattle.opening.specs.declared.chunk.Standing.the-variants.{Stands, Nothing}
+use Rattle.chunk.specs.declared.image.Reading.{Reading}
+use Rattle.chunk.specs.declared.Chunk.{Chunk}
+use Rattle.chunk.specs.declared.Standing.{Standing}
+use Rattle.chunk.specs.declared.Standing.the-variants.{Stands, Nothing}
 use Rattle.opening.specs.declared.header.Copy.{Copy}
 use Rattle.opening.specs.declared.header.Copy.the-variants.{Names, Plain, NoCopy}
 use Rattle.opening.specs.declared.Opened.{Opened}
 use Rattle.opening.specs.declared.Opened.the-variants.{Newest, Refused}
-use Rattle.opening.specs.Image.{blocksIn, sizeRight, headerLine, footerLine, gives, value, says}
-use Rattle.opening.specs.Chunk.{standsAt}
+use Rattle.chunk.specs.Image.{blocksIn, sizeRight, headerLine, footerLine, gives, value, says}
+use Rattle.chunk.specs.Chunk.{standsAt, kept, hasId}
 
 -- ## The file header
 -- "A file header copy [..] is good if its line has a right `fletcher`, H:2, blockSize:1000, format:1, and either all of block,
@@ -59,14 +59,7 @@ unfoldable pub headerOf : List ℕ → Copy
 headerOf image = counting (copyOf (headerLine image 0)) (copyOf (headerLine image 1))
 
 -- ## The two starts
-abbrev pub kept : (Chunk → Bool) → Standing → Standing
-kept P Nothing = Nothing
-kept P (Stands c) = cond (P c) (Stands c) Nothing
-
 -- three things for which a chunk is kept: its id, where it ends, a strictly higher version
-abbrev pub hasId : ℕ → Chunk → Bool
-hasId id k = eqb (k .id) id
-
 abbrev pub endsAt : ℕ → Chunk → Bool
 endsAt e k = eqb (k .block + k .len) e
 

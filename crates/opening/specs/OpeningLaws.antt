@@ -5,11 +5,11 @@ use mathlib.Core.Bool.{Bool, true, false, cond}
 use mathlib.Core.List.{List}
 use native.Mathlib.Omega.{arith}
 use borrow.Author.Tests.{eq-eqb, ne-eqb, lt-ltb, le-ltb}
-use Rattle.opening.specs.declared.chunk.Chunk.{Chunk}
-use Rattle.opening.specs.declared.chunk.Standing.the-variants.{Stands, Nothing}
-use Rattle.opening.specs.Image.{footerLine}
-use Rattle.opening.specs.Chunk.{footerOf, footed}
-use Rattle.opening.specs.Opening.{kept, endsAt, higher}
+use Rattle.chunk.specs.declared.Chunk.{Chunk}
+use Rattle.chunk.specs.declared.Standing.the-variants.{Stands, Nothing}
+use Rattle.chunk.specs.Image.{footerLine}
+use Rattle.chunk.specs.Chunk.{footerOf, footed, kept}
+use Rattle.opening.specs.Opening.{endsAt, higher}
 
 -- ## The higher start
 module _ (a b : Chunk) where

@@ -1,6 +1,6 @@
 // The file header's two copies.
-use super::image::Reading;
-use super::image::header_line;
+use chunk::Reading;
+use chunk::header_line;
 use line::Fields;
 ghost use mathlib.Core.Path.{_≡_};
 ghost use Rattle.opening.specs.Opening.{formatRight, namesAll, namesAny, good, copyOf, counting, headerOf};

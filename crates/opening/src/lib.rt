@@ -1,47 +1,27 @@
 // Opening a store: from any bytes to the newest chunk.
-mod chunk;
 mod header;
-mod image;
 
-pub use chunk::Chunk;
-pub use chunk::Standing;
+use chunk::Chunk;
+use chunk::Standing;
+use chunk::blocks_in;
+use chunk::footer_line;
 use chunk::is_footer;
 use chunk::said_at;
-pub use chunk::stands_at;
+use chunk::stands_at;
+use chunk::with_id;
 pub use header::Copy;
 pub use header::header_of;
 use header::is_good;
-pub use image::Reading;
-pub use image::area_at;
-pub use image::blocks_in;
-pub use image::chunk_line;
-pub use image::footer_line;
-pub use image::header_line;
 use line::Fields;
 use refusal::Refusal;
 ghost use mathlib.Core.Path.{_≡_};
-ghost use Rattle.opening.specs.Image.{blocksIn};
-ghost use Rattle.opening.specs.Chunk.{standsAt};
-ghost use Rattle.opening.specs.Opening.{kept, hasId, headerStart, footerStart, higher, successor, chain, newestFrom, opened};
+ghost use Rattle.chunk.specs.Image.{blocksIn};
+ghost use Rattle.opening.specs.Opening.{headerStart, footerStart, higher, successor, chain, newestFrom, opened};
 
 // The newest chunk, or why the image does not open.
 pub enum Opened {
     Newest(Chunk),
     Refused(Refusal),
-}
-
-// The chunk that stands, if it has the id.
-pub fn with_id(s: Standing, id: u64) -> Standing
-    ensures { λ r. ⌜ r ≡ kept (hasId id) s ⌝ }
-{
-    let Standing::Stands(c) = s else {
-        return Standing::Nothing;
-    };
-    if c.id as u64 == id {
-        s
-    } else {
-        Standing::Nothing
-    }
 }
 
 // The chunk standing at the file header's block with the header's chunk id, if named.

@@ -12,7 +12,7 @@ use Rattle.key.specs.declared.Kind.the-variants.{Text}
 use Rattle.key.specs.Key.{Key, keyOf, text, compareKeys}
 use Rattle.tree.specs.Asking.{mapLookup}
 use Rattle.locating.specs.GateLaws.{gated-open}
-use Rattle.opening.specs.declared.chunk.Chunk.{Chunk}
+use Rattle.chunk.specs.declared.Chunk.{Chunk}
 use Rattle.content.specs.Content.{Entry}
 use Rattle.metadata.specs.declared.Location.{Location}
 use Rattle.metadata.specs.declared.Location.the-variants as location

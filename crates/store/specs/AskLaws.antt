@@ -23,7 +23,7 @@ use Rattle.tree.specs.OutcomeLaws.{bind-ok}
 use Rattle.tree.specs.Walk.{mapNext}
 use Rattle.tree.specs.WalkHoldsLaws.{Holds, map-next-holds}
 use Rattle.tree.specs.HoldsLaws.{InLeaf, map-lookup-holds, map-index-holds, map-entries-hold}
-use Rattle.opening.specs.declared.chunk.Chunk.{Chunk}
+use Rattle.chunk.specs.declared.Chunk.{Chunk}
 use Rattle.page.specs.declared.Judged.{Judged}
 use Rattle.page.specs.declared.Judged.the-variants as judged
 use Rattle.content.specs.declared.Nth.{Nth}

@@ -16,7 +16,7 @@ use Rattle.key.specs.declared.Kind.{Kind}
 use Rattle.key.specs.Key.{Key, compareKeys}
 use Rattle.tree.specs.Page.{branch}
 use Rattle.tree.specs.Asking.{mapLookup, mapIndex, mapCount}
-use Rattle.opening.specs.declared.chunk.Chunk.{Chunk}
+use Rattle.chunk.specs.declared.Chunk.{Chunk}
 use Rattle.page.specs.declared.Place.{Place}
 use Rattle.page.specs.declared.Judged.{Judged}
 use Rattle.page.specs.declared.Judged.the-variants as judged

@@ -22,7 +22,7 @@ use Rattle.tree.specs.Examination.{Report, nothing, both, counted, examineChild
 use Rattle.tree.specs.InnerPage.{childrenFrom, sum, examineFrom}
 use Rattle.tree.specs.ChildrenLaws.{more-from, last-from, examine-from}
 use Rattle.tree.specs.Bounds.{Few, Small, nothing-few, both-few, children-small, children-total, examine-bounded, examine-below}
-use Rattle.opening.specs.declared.chunk.Chunk.{Chunk}
+use Rattle.chunk.specs.declared.Chunk.{Chunk}
 use Rattle.item.specs.Step.{upTo}
 use Rattle.item.specs.Item.{items, countAt}
 use Rattle.page.specs.Judged.{keyForm}

@@ -20,7 +20,7 @@ use Rattle.locating.specs.Known.{Gated, Known, readWith, askedIn, CameTo}
 use Rattle.locating.specs.GateLaws.{gated-open, gated-shut, gated-zero, gated-same}
 use Rattle.locating.specs.StepLaws.{newest-known, ninth-refused, page-zero, page-refused}
 use Rattle.locating.specs.StepLaws.{page-known, empty-found, root-reached, depth-refused, descent-refused, child-reached, leaf-found}
-use Rattle.opening.specs.declared.chunk.Chunk.{Chunk}
+use Rattle.chunk.specs.declared.Chunk.{Chunk}
 use Rattle.page.specs.declared.Place.{Place}
 use Rattle.content.specs.Content.{Entry, pageIn}
 use Rattle.memory.specs.declared.Recalled.the-variants as recalled

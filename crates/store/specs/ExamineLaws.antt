@@ -22,7 +22,7 @@ use Rattle.tree.specs.Rising.{separatorsTest}
 use Rattle.tree.specs.RisingLaws.{keys-test, separators-test}
 use Rattle.tree.specs.Examination.{Report, oneLeaf, over, filled, keysLie, examineChildren, examinePage, examine, mapExamine}
 use Rattle.tree.specs.ChildrenLaws.{separators-childrenOf}
-use Rattle.opening.specs.declared.chunk.Chunk.{Chunk}
+use Rattle.chunk.specs.declared.Chunk.{Chunk}
 use Rattle.page.specs.declared.Judged.{Judged}
 use Rattle.page.specs.declared.Judged.the-variants as judged
 use Rattle.content.specs.Content.{keysIn, positionsIn, countsIn, entriesIn, pageOf}

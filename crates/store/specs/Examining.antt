@@ -13,7 +13,7 @@ use Rattle.refusal.specs.Refusal.{Outcome, unsound}
 use Rattle.key.specs.declared.Kind.{Kind}
 use Rattle.key.specs.Key.{compareKeys}
 use Rattle.tree.specs.Examination.{Report, examine, examineChildren, mapExamine}
-use Rattle.opening.specs.declared.chunk.Chunk.{Chunk}
+use Rattle.chunk.specs.declared.Chunk.{Chunk}
 use Rattle.content.specs.WholeLaws.{InnerWhole, childrenIn}
 use Rattle.rising.specs.Rising.{boundKey}
 use Rattle.soundness.specs.declared.Span.{Span}

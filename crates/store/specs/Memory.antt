@@ -11,7 +11,7 @@ use Rattle.refusal.specs.Refusal.{ok, refuse}
 use Rattle.position.specs.declared.Position.{Position}
 use Rattle.key.specs.declared.Kind.{Kind}
 use Rattle.key.specs.Key.{Key, keyOf}
-use Rattle.opening.specs.declared.chunk.Chunk.{Chunk}
+use Rattle.chunk.specs.declared.Chunk.{Chunk}
 use Rattle.content.specs.Content.{Entry, pageIn}
 use Rattle.locating.specs.Locating.{located}
 use Rattle.locating.specs.Known.{Gated, Known, askedIn}

@@ -4,7 +4,7 @@ use mathlib.Core.Path.{_≡_}
 use mathlib.Core.List.{List}
 use lib.ListN.{replicate}
 use Rattle.locating.specs.Known.{Known}
-use Rattle.opening.specs.declared.chunk.Chunk.{Chunk}
+use Rattle.chunk.specs.declared.Chunk.{Chunk}
 use Rattle.page.specs.declared.Place.{Place}
 use Rattle.memory.specs.declared.Recalled.the-variants.{At}
 use Rattle.memory.specs.Words.{recalledIn, rememberedIn}

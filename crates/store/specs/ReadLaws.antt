@@ -9,7 +9,7 @@ use Rattle.refusal.specs.declared.Refusal.{Refusal}
 use Rattle.refusal.specs.Refusal.{Outcome, ok, refuse, bind, outOfPlace}
 use Rattle.position.specs.Position.{chunkOf}
 use Rattle.key.specs.declared.Kind.{Kind}
-use Rattle.opening.specs.declared.chunk.Chunk.{Chunk}
+use Rattle.chunk.specs.declared.Chunk.{Chunk}
 use Rattle.tree.specs.Page.{branch}
 use Rattle.page.specs.declared.Place.{Place}
 use Rattle.page.specs.declared.Judged.the-variants as judged

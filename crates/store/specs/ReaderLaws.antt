@@ -11,7 +11,7 @@ use Rattle.refusal.specs.Refusal.{Outcome, ok, refuse, bind, outOfPlace}
 use Rattle.position.specs.Position.{chunkOf}
 use Rattle.key.specs.declared.Kind.{Kind}
 use Rattle.key.specs.Key.{Key}
-use Rattle.opening.specs.declared.chunk.Chunk.{Chunk}
+use Rattle.chunk.specs.declared.Chunk.{Chunk}
 use Rattle.tree.specs.Page.{branch, Children, Page, leaf, inner, total}
 use Rattle.tree.specs.OutcomeLaws.{refuse-ok, bind-ok}
 use Rattle.tree.specs.Bounds.{ReadsBelow}

@@ -9,14 +9,14 @@ use native.Mathlib.Omega.{arith}
 use Rattle.line.specs.declared.read.Fields.{Fields}
 use Rattle.line.specs.Fields.{nameBlock, readOf}
 use Rattle.item.specs.Item.{Spot}
-use Rattle.opening.specs.declared.chunk.Chunk.{Chunk}
-use Rattle.opening.specs.declared.chunk.Standing.{Standing}
-use Rattle.opening.specs.declared.chunk.Standing.the-variants.{Stands, Nothing}
-use Rattle.opening.specs.Names.{givenOf, valueOf}
-use Rattle.opening.specs.Chunk.{standsAt}
-use Rattle.opening.specs.Opening.{kept, hasId}
-use Rattle.opening.specs.ChunkLaws.{Stood, stands-stood, stood-most}
-use Rattle.opening.specs.ChainLaws.{kept-told}
+use Rattle.chunk.specs.declared.Chunk.{Chunk}
+use Rattle.chunk.specs.declared.Standing.{Standing}
+use Rattle.chunk.specs.declared.Standing.the-variants.{Stands, Nothing}
+use Rattle.chunk.specs.Names.{givenOf, valueOf}
+use Rattle.chunk.specs.Chunk.{standsAt}
+use Rattle.chunk.specs.Chunk.{kept, hasId}
+use Rattle.chunk.specs.ChunkLaws.{Stood, stands-stood, stood-most}
+use Rattle.chunk.specs.ChunkLaws.{kept-told}
 use Rattle.key.specs.declared.Kind.{Kind}
 use Rattle.key.specs.declared.Kind.the-variants.{Text}
 use Rattle.key.specs.Key.{Key, text}

@@ -5,8 +5,8 @@
 use Prim.Native.Nat.{ℕ, _+_}
 use mathlib.Core.List.{List}
 use Rattle.refusal.specs.Refusal.{notLocated}
-use Rattle.opening.specs.declared.chunk.Standing.{Standing}
-use Rattle.opening.specs.declared.chunk.Standing.the-variants.{Stands, Nothing}
+use Rattle.chunk.specs.declared.Standing.{Standing}
+use Rattle.chunk.specs.declared.Standing.the-variants.{Stands, Nothing}
 use Rattle.memory.specs.Words.{rememberedIn}
 use Rattle.metadata.specs.declared.Location.{Location}
 use Rattle.metadata.specs.declared.Location.the-variants as location

@@ -22,7 +22,7 @@ use Rattle.key.specs.Key.{Key, text, compareKeys}
 use Rattle.tree.specs.Page.{branch, Page}
 use Rattle.tree.specs.Asking.{mapLookup}
 use Rattle.locating.specs.Locating.{Metadata, readAt, located}
-use Rattle.opening.specs.declared.chunk.Chunk.{Chunk}
+use Rattle.chunk.specs.declared.Chunk.{Chunk}
 use Rattle.page.specs.declared.Place.{Place}
 use Rattle.content.specs.Content.{Entry, pageIn}
 use Rattle.store.specs.declared.Map.{Map}

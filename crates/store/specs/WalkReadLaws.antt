@@ -23,7 +23,7 @@ use Rattle.tree.specs.Walk.{Moved, over, stop}
 use Rattle.tree.specs.WalkLaws.{child-some, child-none, first-child, prefixed, raised, leftmostAt, nextAt}
 use Rattle.tree.specs.WalkLaws.{leftmost-refused, leftmost-empty-root, leftmost-empty-below, leftmost-entry, leftmost-inner}
 use Rattle.tree.specs.WalkLaws.{at-refused, at-too-deep, at-no-entry, at-entry, at-over, at-too-high, at-no-child, at-last-child, at-child}
-use Rattle.opening.specs.declared.chunk.Chunk.{Chunk}
+use Rattle.chunk.specs.declared.Chunk.{Chunk}
 use Rattle.page.specs.declared.Judged.{Judged}
 use Rattle.page.specs.declared.Judged.the-variants as judged
 use Rattle.content.specs.Content.{Entry, entriesIn, positionsIn, countsIn, keysIn, pageOf}

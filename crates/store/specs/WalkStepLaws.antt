@@ -16,7 +16,7 @@ use Rattle.key.specs.declared.Kind.{Kind}
 use Rattle.key.specs.Key.{Key}
 use Rattle.tree.specs.Walk.{Moved, over, stop, mapNext}
 use Rattle.tree.specs.WalkLaws.{raised, length-raised, zeros-more, leftmostAt, map-empty, map-empty-numbers, map-first}
-use Rattle.opening.specs.declared.chunk.Chunk.{Chunk}
+use Rattle.chunk.specs.declared.Chunk.{Chunk}
 use Rattle.content.specs.Content.{Entry}
 use Rattle.metadata.specs.declared.Root.{Root}
 use Rattle.metadata.specs.declared.Root.the-variants as root

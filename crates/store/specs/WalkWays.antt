@@ -10,7 +10,7 @@ use Rattle.key.specs.declared.Kind.{Kind}
 use Rattle.key.specs.Key.{Key}
 use Rattle.tree.specs.Walk.{over, stop, mapNext}
 use Rattle.tree.specs.WalkLaws.{prefixed, raised, leftmostAt}
-use Rattle.opening.specs.declared.chunk.Chunk.{Chunk}
+use Rattle.chunk.specs.declared.Chunk.{Chunk}
 use Rattle.content.specs.Content.{Entry}
 use Rattle.cursor.specs.declared.Yield.the-variants as yields
 use Rattle.cursor.specs.declared.follow.Down.{Down}

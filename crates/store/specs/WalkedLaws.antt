@@ -14,7 +14,7 @@ use Rattle.tree.specs.Asking.{mapEntries}
 use Rattle.tree.specs.Sound.{Sound}
 use Rattle.tree.specs.Walk.{Moved, mapNext, Yields}
 use Rattle.tree.specs.WalkTheorem.{Fits, next-fits, sound-yields}
-use Rattle.opening.specs.declared.chunk.Chunk.{Chunk}
+use Rattle.chunk.specs.declared.Chunk.{Chunk}
 use Rattle.content.specs.Content.{Entry}
 use Rattle.cursor.specs.declared.Walk.{Walk}
 use Rattle.cursor.specs.Walk.{zeros, fresh, formed, numbers, leading, settled, movedBy, movedIn}

@@ -22,7 +22,7 @@ use Rattle.key.specs.Key.{Key}
 use Rattle.tree.specs.Walk.{Moved, over, stop, mapNext}
 use Rattle.tree.specs.WalkLaws.{prefixed, raised, leftmostAt, nextAt, map-next}
 use Rattle.tree.specs.WalkLaws.{leftmost-deep}
-use Rattle.opening.specs.declared.chunk.Chunk.{Chunk}
+use Rattle.chunk.specs.declared.Chunk.{Chunk}
 use Rattle.page.specs.declared.Judged.{Judged}
 use Rattle.content.specs.Content.{Entry}
 use Rattle.cursor.specs.declared.follow.After.{After}

@@ -2,6 +2,7 @@
 // that the caller lends; `q` is how many questions may still be opened.
 use super::Map;
 use super::settle::settle;
+use chunk::Chunk;
 use memory::Recalled;
 use metadata::Advance;
 use metadata::Answer;
@@ -9,7 +10,6 @@ use metadata::Location;
 use metadata::advance_at;
 use metadata::chunk_key;
 use metadata::place_of;
-use opening::Chunk;
 use position::Position;
 use refusal::Refusal;
 ghost use Prim.Native.Nat.{_≤_};

@@ -1,9 +1,9 @@
 // What the metadata's answer for a chunk says of where the chunk stands.
+use chunk::Standing;
 use metadata::Answer;
 use metadata::Location;
 use metadata::place_of;
 use metadata::standing_by;
-use opening::Standing;
 use refusal::Refusal;
 ghost use Prim.Native.Nat.{_≤_};
 ghost use mathlib.Core.Path.{_≡_};

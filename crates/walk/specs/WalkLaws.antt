@@ -13,7 +13,7 @@ use Rattle.key.specs.declared.Kind.{Kind}
 use Rattle.key.specs.Key.{Key, number, text}
 use Rattle.tree.specs.Walk.{Moved, yield, over, stop}
 use Rattle.tree.specs.WalkHoldsLaws.{Holds}
-use Rattle.opening.specs.declared.chunk.Chunk.{Chunk}
+use Rattle.chunk.specs.declared.Chunk.{Chunk}
 use Rattle.opening.specs.declared.Opened.the-variants as opened
 use Rattle.opening.specs.Opening.{opened}
 use Rattle.content.specs.Content.{Entry, keyIn}

@@ -1,6 +1,6 @@
 use denote.Ref.{now}
 use mathlib.Core.Path.{_≡_, refl, sym, _∙_}
-use Rattle.opening.specs.Image.{blocksIn}
+use Rattle.chunk.specs.Image.{blocksIn}
 use Rattle.opening.specs.Opening.{chain}
 use Rattle.opening.specs.ChainLaws.{above, successor-falls, chain-last, chain-next}
 use borrow.Author.Needs.{needs}

@@ -2,9 +2,9 @@ use mathlib.Core.Path.{_≡_, sym, _∙_}
 use denote.Ref.{now}
 use Rattle.text.specs.Text.{same}
 use Rattle.line.specs.Reading.{numberOf, slotOf}
-use Rattle.opening.specs.Chunk.{standsAt}
-use Rattle.opening.specs.Opening.{kept, endsAt, footerStart}
-use Rattle.opening.specs.ChunkLaws.{stands-footed, stands-unsaid}
+use Rattle.chunk.specs.Chunk.{standsAt, kept}
+use Rattle.opening.specs.Opening.{endsAt, footerStart}
+use Rattle.chunk.specs.ChunkLaws.{stands-footed, stands-unsaid}
 use Rattle.opening.specs.OpeningLaws.{footed-elsewhere, footed-ending}
 use borrow.Author.Needs.{needs}
 use Rattle.opening.proofs.footer_start.Statement.{statement}

@@ -4,7 +4,7 @@ use mathlib.Core.Path.{_≡_, sym, _∙_}
 use Rattle.opening.specs.Opening.{headerStart, footerStart, higher, newestFrom, opened}
 use Rattle.opening.specs.declared.Opened.the-variants.{Refused}
 use Rattle.refusal.specs.Refusal.{noHeader}
-use Rattle.opening.specs.ImageLaws.{size-right, size-wrong}
+use Rattle.chunk.specs.ImageLaws.{size-right, size-wrong}
 use borrow.Author.Needs.{needs}
 use Rattle.opening.proofs.open.Statement.{statement}
 use Rattle.opening.proofs.open.Tie as tie

@@ -1,0 +1,85 @@
+-- The image, its blocks and its lines, after document 01, "What is read" and "The text lines".
+--
+--   blocksOf image       the number of whole blocks of the image
+--   sizeRight image      3 to 268,435,456 blocks
+--   blocksIn image       the number of blocks; 0 where the size is not right
+--   Reading              what a line says, and where its newline stands in its area
+--   gives, value, says   whether a reading has a field of a name, its value, and whether it has it with a value
+--   headerLine image c   a file header's line: copy c stands in block c
+--   chunkLine image b    the line of the chunk header in block b
+--   footerLine image e   the footer's line in the last 128 bytes before block e
+-- The last three are all that opening reads of the image.
+use Prim.Native.Nat.{ℕ, _*_, _-_, _/_}
+use mathlib.Core.Bool.{Bool, cond, _&&_}
+use mathlib.Core.List.{List}
+use lib.Dec.{eqb}
+use lib.ListN.{length, take, drop}
+use Rattle.text.specs.Text.{within}
+use Rattle.line.specs.declared.Line.{Line}
+use Rattle.line.specs.declared.Line.the-variants.{At, Nothing}
+use Rattle.line.specs.Line.{lineOf}
+use Rattle.line.specs.Fields.{readOf, noFields, rightSum}
+use Rattle.chunk.specs.declared.image.Reading.{Reading}
+use Rattle.chunk.specs.Names.{givenAt, valueAt, givenOf, valueOf}
+
+-- "A block is 4,096 bytes."
+abbrev pub blockBytes : ℕ
+blockBytes = 4096
+
+-- "The image is its whole blocks; a last part block is ignored."
+abbrev pub blocksOf : List ℕ → ℕ
+blocksOf image = length image / blockBytes
+
+-- "It has 3 to 268,435,456 blocks."
+abbrev pub sizeRight : List ℕ → Bool
+sizeRight image = within 3 268435456 (blocksOf image)
+
+-- bytes that are no image have no blocks in which anything stands
+unfoldable pub blocksIn : List ℕ → ℕ
+blocksIn image = cond (sizeRight image) (blocksOf image) 0
+
+-- no line, or a line that breaks a rule
+abbrev pub noReading : Reading
+noReading = record { fields = noFields; newline = 0 }
+
+abbrev pub plain : List ℕ → Line → Reading
+plain area Nothing = noReading
+plain area (At n newline) = record { fields = readOf (take n area); newline = newline }
+
+-- "File headers and footers end with the field `fletcher`": nothing is read of a line whose sum is not right
+abbrev pub summed : List ℕ → Line → Reading
+summed area Nothing = noReading
+summed area (At n newline) = cond (rightSum (take n area)) (plain area (At n newline)) noReading
+
+abbrev pub areaAt : List ℕ → ℕ → ℕ → List ℕ
+areaAt image at n = take n (drop at image)
+
+abbrev pub plainLine : List ℕ → Reading
+plainLine area = plain area (lineOf area)
+
+abbrev pub summedLine : List ℕ → Reading
+summedLine area = summed area (lineOf area)
+
+-- "Areas: a file header's block, a chunk header's first 1,024 bytes, a footer's 128 bytes."
+unfoldable pub headerLine : List ℕ → ℕ → Reading
+headerLine image c = summedLine (areaAt image (c * blockBytes) blockBytes)
+
+unfoldable pub chunkLine : List ℕ → ℕ → Reading
+chunkLine image b = plainLine (areaAt image (b * blockBytes) 1024)
+
+unfoldable pub footerLine : List ℕ → ℕ → Reading
+footerLine image e = summedLine (areaAt image (e * blockBytes - 128) 128)
+
+-- ## What a reading says of a name
+abbrev pub gives : Reading → List ℕ → Bool
+gives r name = givenOf (r .fields) name
+
+abbrev pub value : Reading → List ℕ → ℕ
+value r name = valueOf (r .fields) name
+
+abbrev pub says : Reading → List ℕ → ℕ → Bool
+says r name v = gives r name && eqb (value r name) v
+
+-- the same of a slot, as the code asks
+abbrev pub saysAt : Reading → ℕ → ℕ → Bool
+saysAt r k v = givenAt (r .fields) k && eqb (valueAt (r .fields) k) v
