@@ -10,8 +10,8 @@ use lib.ListN.{length, getD, take, drop, set, length-set}
 use lib.Seq.{getD-set-same, length-take-le}
 use Rattle.text.specs.Text.{span, within, isNot, isLetter}
 use Rattle.text.specs.Laws.{span-le}
-use Rattle.names.specs.declared.tree.Sought.{Sought}
-use Rattle.names.specs.declared.tree.Sought.the-variants.{Met, Free, Deep}
+use Rattle.names.specs.declared.tree.Search.{Search}
+use Rattle.names.specs.declared.tree.Search.the-variants.{Met, Free, Deep}
 use Rattle.names.specs.Names.{comma, partsAfter, distinct, distinctNames}
 use Rattle.names.specs.Tree.{nameAt, nameEnd, soughtIn, isIn, partsFrom, clear, apart, stoppedBy, Room, FullAt, Filling}
 use Rattle.names.specs.PartsLaws.{parts-more, part-inside}
@@ -86,7 +86,7 @@ module _ {line places kids : List ℕ} {from used i : ℕ} (j : Judging line fro
   pub judging-unnamed : {to : ℕ} → to ≡ nameEnd line i → to ≡ i → false ≡ distinct (partsFrom line from)
   judging-unnamed e f = sym (unnamed-end line i (isIn line from places kids used) e f) ∙ j .rest
 
-  module _ {to : ℕ} (p : NamedAt line i to) {o : Sought}
+  module _ {to : ℕ} (p : NamedAt line i to) {o : Search}
       (s : o ≡ soughtIn line from places kids used (take (to - i) (drop i line))) where
     abbrev found : List ℕ
     found = take (to - i) (drop i line)
@@ -95,7 +95,7 @@ module _ {line places kids : List ℕ} {from used i : ℕ} (j : Judging line fro
     pub judging-stopped : ((slot : ℕ) → o ≡ Free slot → ⊥) → Filling line from places kids (stoppedBy o i used)
     judging-stopped taken = go o s taken
       where
-        go : (x : Sought) → x ≡ soughtIn line from places kids used found → ((slot : ℕ) → x ≡ Free slot → ⊥) →
+        go : (x : Search) → x ≡ soughtIn line from places kids used found → ((slot : ℕ) → x ≡ Free slot → ⊥) →
             Filling line from places kids (stoppedBy x i used)
         go Met s taken =
             sym (apart-met-at (isIn line from places kids used) line i (p .letters) (is-in-met line from places kids used found (sym s))) ∙

@@ -8,7 +8,7 @@ use borrow.Author.Tests.{lt-ltb, le-ltb, eq-eqb, ne-eqb}
 use lib.Dec.{ltb}
 use lib.ListN.{length, getD}
 use Rattle.text.specs.Text.{same}
-use Rattle.names.specs.declared.tree.Sought.the-variants.{Met, Free, Deep}
+use Rattle.names.specs.declared.tree.Search.the-variants.{Met, Free, Deep}
 use Rattle.names.specs.Tree.{bitOf, nameAt, sought, kidIn, nameIn, soughtIn}
 
 pub bit-small : (name : List ℕ) (d : ℕ) → bitOf name d ≤ 1

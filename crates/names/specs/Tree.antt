@@ -21,10 +21,10 @@ use mathlib.Core.List.{List, [], _∷_}
 use lib.Dec.{eqb, ltb, leb}
 use lib.ListN.{length, getD, drop}
 use Rattle.text.specs.Text.{span, isLetter, same, split}
-use Rattle.names.specs.declared.tree.Sought.{Sought}
-use Rattle.names.specs.declared.tree.Sought.the-variants.{Met, Free, Deep}
+use Rattle.names.specs.declared.tree.Search.{Search}
+use Rattle.names.specs.declared.tree.Search.the-variants.{Met, Free, Deep}
 use Rattle.names.specs.declared.Filled.{Filled}
-use Rattle.names.specs.declared.Filled.the-variants.{Told, Full}
+use Rattle.names.specs.declared.Filled.the-variants.{Distinct, Full}
 use Rattle.names.specs.Names.{comma, nameOf, distinct}
 
 unfoldable pub bitOf : List ℕ → ℕ → ℕ
@@ -37,7 +37,7 @@ unfoldable pub nameEnd : List ℕ → ℕ → ℕ
 nameEnd line i = let n = span isLetter (drop i line) in cond (leb n 16) (i + n) i
 
 -- ## The tree
-unfoldable pub sought : ℕ → (ℕ → ℕ) → (ℕ → List ℕ) → ℕ → List ℕ → ℕ → Sought
+unfoldable pub sought : ℕ → (ℕ → ℕ) → (ℕ → List ℕ) → ℕ → List ℕ → ℕ → Search
 sought zero kid names used n s = Deep
 sought (suc f) kid names used n s =
     cond (eqb (kid s) 0) (Free s)
@@ -50,10 +50,10 @@ kidIn kids s = getD kids s 0
 abbrev pub nameIn : List ℕ → ℕ → List ℕ → ℕ → List ℕ
 nameIn line from places j = nameAt line (from + getD places j 0)
 
-unfoldable pub soughtIn : List ℕ → ℕ → List ℕ → List ℕ → ℕ → List ℕ → Sought
+unfoldable pub soughtIn : List ℕ → ℕ → List ℕ → List ℕ → ℕ → List ℕ → Search
 soughtIn line from places kids used n = sought 97 (kidIn kids) (nameIn line from places) used n 0
 
-abbrev pub met : Sought → Bool
+abbrev pub met : Search → Bool
 met Met = true
 met (Free s) = false
 met Deep = false
@@ -73,14 +73,14 @@ unfoldable pub apart : (List ℕ → Bool) → List (List ℕ) → Bool
 apart K parts = clear K parts && distinct parts
 
 -- ## Answers
-abbrev pub stoppedBy : Sought → ℕ → ℕ → Filled
-stoppedBy Met i used = Told false
+abbrev pub stoppedBy : Search → ℕ → ℕ → Filled
+stoppedBy Met i used = Distinct false
 stoppedBy (Free s) i used = Full i used
 stoppedBy Deep i used = Full i used
 
-abbrev pub toldBy : Filled → Bool
-toldBy (Told r) = r
-toldBy (Full next used) = false
+abbrev pub distinctBy : Filled → Bool
+distinctBy (Distinct r) = r
+distinctBy (Full next used) = false
 
 pub record Room (places kids : List ℕ) : Type 0 where
   pub nodes : length places ≡ 2048
@@ -94,5 +94,5 @@ pub record FullAt (line : List ℕ) (from : ℕ) (places kids : List ℕ) (next 
   pub rest : apart (isIn line from places kids used) (partsFrom line next) ≡ distinct (partsFrom line from)
 
 abbrev pub Filling : List ℕ → ℕ → List ℕ → List ℕ → Filled → Type 0
-Filling line from places kids (Told r) = r ≡ distinct (partsFrom line from)
+Filling line from places kids (Distinct r) = r ≡ distinct (partsFrom line from)
 Filling line from places kids (Full next used) = FullAt line from places kids next used

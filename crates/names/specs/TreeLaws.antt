@@ -10,8 +10,8 @@ use lib.ListN.{length, getD, set, replicate, length-set, length-replicate}
 use lib.Seq.{getD-set-same, getD-set-other}
 use Rattle.text.specs.Text.{same}
 use Rattle.text.specs.Laws.{same-self, same-eq}
-use Rattle.names.specs.declared.tree.Sought.{Sought}
-use Rattle.names.specs.declared.tree.Sought.the-variants.{Met, Free, Deep}
+use Rattle.names.specs.declared.tree.Search.{Search}
+use Rattle.names.specs.declared.tree.Search.the-variants.{Met, Free, Deep}
 use Rattle.names.specs.Tree.{bitOf, nameAt, sought, kidIn, nameIn, soughtIn, met, isIn, Room}
 use Rattle.names.specs.SeekLaws.{bit-small, free-step, off-step, met-step, on-step}
 
@@ -53,10 +53,10 @@ pub record Grown (kid kid' : ℕ → ℕ) (names names' : ℕ → List ℕ) (use
   pub others : (j : ℕ) → j ≤ used → names' j ≡ names j
 
 module _ {kid kid' : ℕ → ℕ} {names names' : ℕ → List ℕ} {used slot : ℕ} {q : List ℕ} (g : Grown kid kid' names names' used slot q) where
-  abbrev before : ℕ → List ℕ → ℕ → Sought
+  abbrev before : ℕ → List ℕ → ℕ → Search
   before f n s = sought f kid names used n s
 
-  abbrev after : ℕ → List ℕ → ℕ → Sought
+  abbrev after : ℕ → List ℕ → ℕ → Search
   after f n s = sought f kid' names' (used + 1) n s
 
   new-met : (f s : ℕ) → kid' s ≡ used + 1 → after (suc f) q s ≡ Met

@@ -4,7 +4,7 @@
 // of their own.
 mod tree;
 
-use tree::Sought;
+use tree::Search;
 use tree::grow;
 use tree::is_in;
 use tree::seek;
@@ -12,11 +12,11 @@ ghost use Prim.Native.Nat.{_≤_};
 ghost use mathlib.Core.Path.{_≡_};
 ghost use lib.ListN.{length};
 ghost use Rattle.names.specs.Names.{partsAfter, namedIn, distinctNames};
-ghost use Rattle.names.specs.Tree.{nameEnd, partsFrom, clear, isIn, stoppedBy, toldBy, Room, Filling};
+ghost use Rattle.names.specs.Tree.{nameEnd, partsFrom, clear, isIn, stoppedBy, distinctBy, Room, Filling};
 
 // What becomes of a tree: whether the names are distinct, or it has no room for the name at `next`.
 enum Filled {
-    Told(bool),
+    Distinct(bool),
     Full { next: usize, used: usize },
 }
 
@@ -55,13 +55,13 @@ fn name_end(line: &[u8], i: usize) -> usize
 }
 
 // What a way that does not end at a free slot says of the name at `i`.
-fn stopped(found: Sought, i: usize, used: usize) -> Filled
+fn stopped(found: Search, i: usize, used: usize) -> Filled
     ensures { λ r. ⌜ r ≡ stoppedBy found i used ⌝ }
 {
     match found {
-        Sought::Met => Filled::Told(false),
-        Sought::Free(_) => Filled::Full { next: i, used },
-        Sought::Deep => Filled::Full { next: i, used },
+        Search::Met => Filled::Distinct(false),
+        Search::Free(_) => Filled::Full { next: i, used },
+        Search::Deep => Filled::Full { next: i, used },
     }
 }
 
@@ -83,17 +83,17 @@ fn fill(line: &[u8], from: usize, places: &mut [u16; 2048], kids: &mut [u16; 409
         }
         let to = name_end(line, i);
         if to == i {
-            return Filled::Told(false);
+            return Filled::Distinct(false);
         }
         let found = seek(line, from, places, kids, used, &line[i..to]);
-        let Sought::Free(slot) = found else {
+        let Search::Free(slot) = found else {
             return stopped(found, i, used);
         };
         used += 1;
         grow(places, kids, used, slot, i - from);
         let end = text::find_byte(line, to, 44);
         if end == line.len() {
-            return Filled::Told(true);
+            return Filled::Distinct(true);
         }
         i = end + 1;
     }
@@ -128,10 +128,10 @@ fn none_in(
 
 // The verdict that `fill` came to.
 fn told(f: Filled) -> bool
-    ensures { λ r. ⌜ r ≡ toldBy f ⌝ }
+    ensures { λ r. ⌜ r ≡ distinctBy f ⌝ }
 {
     match f {
-        Filled::Told(r) => r,
+        Filled::Distinct(r) => r,
         Filled::Full { next: _, used: _ } => false,
     }
 }

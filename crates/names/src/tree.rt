@@ -9,7 +9,7 @@ ghost use Rattle.text.specs.Text.{every, isLetter, same};
 ghost use Rattle.names.specs.Tree.{bitOf, nameAt, soughtIn, isIn};
 
 // Where a name's way down ends: at a node of this name, at a free slot, or nowhere.
-pub enum Sought {
+pub enum Search {
     Met,
     Free(usize),
     Deep,
@@ -63,7 +63,7 @@ pub(crate) fn seek(
     kids: &[u16; 4096],
     used: usize,
     name: &[u8],
-) -> Sought
+) -> Search
     requires { ⌜ (used ≤ 2047) × (from + length (now name) ≤ length (now line)) × (every isLetter (now name) ≡ true) ⌝ }
     ensures { λ r. ⌜ r ≡ soughtIn (now (line .entry)) from (now (places .entry)) (now (kids .entry)) used (now (name .entry)) ⌝ }
 {
@@ -73,17 +73,17 @@ pub(crate) fn seek(
         left -= 1;
         let node = wide(kids[slot]);
         if node == 0 {
-            return Sought::Free(slot);
+            return Search::Free(slot);
         }
         if used < node {
-            return Sought::Deep;
+            return Search::Deep;
         }
         if named_at(line, from + wide(places[node]), name) {
-            return Sought::Met;
+            return Search::Met;
         }
         slot = 2 * node + bit(name, 96 - left);
     }
-    Sought::Deep
+    Search::Deep
 }
 
 // Whether `name` is in a tree of `used` nodes.
@@ -100,9 +100,9 @@ pub(crate) fn is_in(
 {
     let found = seek(line, from, places, kids, used, name);
     match found {
-        Sought::Met => true,
-        Sought::Free(_) => false,
-        Sought::Deep => false,
+        Search::Met => true,
+        Search::Free(_) => false,
+        Search::Deep => false,
     }
 }
 
