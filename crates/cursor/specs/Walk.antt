@@ -4,7 +4,8 @@
 --   numbers w           the numbers of a state that is formed as 01 says, or none
 --   leading is          the state that these numbers make
 --   closed w n          the same places and depth, with the last answer n
---   settled w m         the step from w when m is next
+--   stateAfter w m      the state after w when m is next
+--   settled w m         the step from w when m is next: that state, and the answer `yieldBy m`
 --   movedBy read root is    what is next after the numbers of a state, in the map whose root is given
 use Prim.Native.Nat.{ℕ, _-_}
 use mathlib.Core.Bool.{Bool, true, _&&_}
@@ -51,10 +52,18 @@ abbrev pub yieldOf : Key × Entry → Yield
 yieldOf e = yields.Entry (e .1 .key .at) (e .1 .key .len) (e .1 .value .at) (e .1 .value .len)
 
 -- "Done or a refusal keeps places and depth, is recorded"
+abbrev pub stateAfter : Walk → Moved (Key × Entry) → Walk
+stateAfter w (yield e i is) = leading (i ∷ is)
+stateAfter w over = closed w doneNumber
+stateAfter w (stop r) = closed w (r .number)
+
+abbrev pub yieldBy : Moved (Key × Entry) → Yield
+yieldBy (yield e i is) = yieldOf e
+yieldBy over = yields.Done
+yieldBy (stop r) = yields.Refused r
+
 unfoldable pub settled : Walk → Moved (Key × Entry) → Stepped
-settled w (yield e i is) = record { walk = leading (i ∷ is); got = yieldOf e }
-settled w over = record { walk = closed w doneNumber; got = yields.Done }
-settled w (stop r) = record { walk = closed w (r .number); got = yields.Refused r }
+settled w m = record { walk = stateAfter w m; got = yieldBy m }
 
 -- "After the map is found, a state not so formed, then a number or depth that doesn't fit [..] refuses with 12"
 abbrev pub movedBy : (ℕ → Outcome (Page Key Entry)) → ℕ → Option (List ℕ) → Moved (Key × Entry)

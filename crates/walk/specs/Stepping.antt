@@ -2,7 +2,7 @@
 --
 --   recorded n          the answer that a state with the last answer n gives again, if it records one
 --   movedOf .. w        what is next: arguments, then opening, then the map
---   given w m           the step from w when m is next
+--   given w m           the step from w when m is next: the state after it, and the answer `nextOf m`
 --   stepOf .. w         the call
 --   WalksOf .. w es     steps from w yield the entries es, one a step, and then Done, which is given again
 use Prim.Native.Nat.{ℕ}
@@ -17,7 +17,7 @@ use Rattle.tree.specs.Page.{branch}
 use Rattle.tree.specs.Walk.{Moved, yield, over, stop}
 use Rattle.content.specs.Content.{Entry}
 use Rattle.cursor.specs.declared.Walk.{Walk}
-use Rattle.cursor.specs.Walk.{numbers, leading, closed, doneNumber, movedBy, movedIn}
+use Rattle.cursor.specs.Walk.{numbers, closed, doneNumber, stateAfter, movedBy, movedIn}
 use Rattle.store.specs.Store.{reader, mapRoot}
 use Rattle.map.specs.Map.{askedMap, openedStore}
 use Rattle.walk.specs.declared.Next.{Next}
@@ -33,11 +33,13 @@ abbrev pub entryNext : Key → Entry → Next
 entryNext (number z) e = next.Number z (e .value .at) (e .value .len)
 entryNext (text t) e = next.Text (e .key .at) (e .key .len) (e .value .at) (e .value .len)
 
--- "Done or a refusal keeps places and depth, is recorded"
+abbrev pub nextOf : Moved (Key × Entry) → Next
+nextOf (yield e i is) = entryNext (e .0) (e .1)
+nextOf over = next.Done
+nextOf (stop r) = next.Refused r
+
 unfoldable pub given : Walk → Moved (Key × Entry) → Step
-given w (yield e i is) = record { walk = leading (i ∷ is); next = entryNext (e .0) (e .1) }
-given w over = record { walk = closed w doneNumber; next = next.Done }
-given w (stop r) = record { walk = closed w (r .number); next = next.Refused r }
+given w m = record { walk = stateAfter w m; next = nextOf m }
 
 module _ (image : List ℕ) (map kind : ℕ) where
   unfoldable pub movedOf : Walk → Moved (Key × Entry)
