@@ -4,8 +4,8 @@
 #include <stdio.h>
 #include <string.h>
 
+#include "fields.h"
 #include "fletcher.h"
-#include "number.h"
 
 #define BLOCK 4096
 #define CHUNK ((size_t)2 * BLOCK) /* where the chunk begins */
@@ -16,46 +16,6 @@ static void put_summed(uint8_t *at, const char *text)
     int len = snprintf(line, sizeof line, "%s,fletcher:%" PRIx32 "\n", text,
                        fletcher((const uint8_t *)text, strlen(text)));
     memcpy(at, line, (size_t)len);
-}
-
-/* A page under way: `at` is where the next field goes. */
-typedef struct page {
-    uint8_t *start;
-    uint8_t *at;
-} page;
-
-static void put_bytes(page *p, const void *bytes, size_t len)
-{
-    memcpy(p->at, bytes, len);
-    p->at += len;
-}
-
-static void put_var(page *p, uint32_t number)
-{
-    for (; number >= 128; number >>= 7)
-        *p->at++ = (uint8_t)(number | 128);
-    *p->at++ = (uint8_t)number;
-}
-
-static void put_text(page *p, const char *text)
-{
-    put_var(p, (uint32_t)strlen(text));
-    put_bytes(p, text, strlen(text));
-}
-
-static void put_number(page *p, int64_t number)
-{
-    number_key(number, p->at);
-    p->at += 8;
-}
-
-static page page_begin(uint8_t *start, uint32_t map, uint32_t count, uint8_t type)
-{
-    page p = {start, start + 6};
-    put_var(&p, map);
-    put_var(&p, count);
-    *p.at++ = type;
-    return p;
 }
 
 /* Chunk id, offset, code 31 (no bound), type. */
