@@ -8,16 +8,14 @@
 use Prim.Native.Nat.{ℕ, _+_}
 use mathlib.Core.List.{List}
 use mathlib.Core.Option.{Option, none, some}
-use lib.Dec.{eqb}
 use lib.ListN.{getD, getElem?, take}
-use Rattle.refusal.specs.Refusal.{Outcome, ok, refuse, bind, outOfPlace, badIndex}
+use Rattle.refusal.specs.Refusal.{Outcome, ok, refuse, bind, badIndex}
 use Rattle.position.specs.Position.{chunkOf, ofBits}
 use Rattle.key.specs.declared.Kind.{Kind}
 use Rattle.key.specs.Key.{Key, compareKeys}
-use Rattle.tree.specs.Page.{branch}
 use Rattle.tree.specs.Asking.{mapLookup, mapIndex, mapCount}
+use Rattle.locating.specs.Locating.{readAt}
 use Rattle.chunk.specs.declared.Chunk.{Chunk}
-use Rattle.page.specs.declared.Place.{Place}
 use Rattle.page.specs.declared.Judged.{Judged}
 use Rattle.page.specs.declared.Judged.the-variants as judged
 use Rattle.page.specs.Judged.{judgedAt}
@@ -33,13 +31,13 @@ use Rattle.store.specs.declared.fetch.Turn.the-variants as turn
 use Rattle.store.specs.Store.{chunkAt, reader, mapRoot}
 
 -- ## Pages
-abbrev pub judgedIn : (Place → Judged) → Outcome Place → Judged
-judgedIn judge (ok c) = judge c
-judgedIn judge (refuse r) = judged.Refused r
+abbrev pub judgedIn : Outcome Judged → Judged
+judgedIn (ok j) = j
+judgedIn (refuse r) = judged.Refused r
 
 unfoldable pub judgedBy : List ℕ → Chunk → ℕ → Kind → ℕ → Judged
 judgedBy image newest map kind p =
-    branch (eqb p 0) (judged.Refused outOfPlace) (judgedIn (λ c. judgedAt image c p map kind) (chunkAt image newest 8 (chunkOf p)))
+    judgedIn (readAt chunkOf (chunkAt image newest 8) (λ l q. ok (judgedAt image l q map kind)) p)
 
 -- ## Questions
 module _ (image : List ℕ) (newest : Chunk) (map : ℕ) where

@@ -31,12 +31,12 @@ module _ (image : List ℕ) (newest : Chunk) (map : ℕ) (kind : Kind) (p : ℕ)
   judged-zero e i = rw (eq-eqb p 0 e, i)
 
   judged-chunk : ¬ (p ≡ 0) → {o : Outcome Place} → o ≡ chunkAt image newest 8 (chunkOf p)
-      → judgedIn (λ c. judgedAt image c p map kind) o ≡ judgedBy image newest map kind p
+      → judgedIn (bind o (λ c. ok (judgedAt image c p map kind))) ≡ judgedBy image newest map kind p
   unfolding judgedBy
   judged-chunk other e = rw (ne-eqb p 0 other, e)
 
   module _ (other : ¬ (p ≡ 0)) {c : ℕ} (t : Location) (e : c ≡ chunkOf p) (tells : IsLocation image newest 8 c t) where
-    judged-told : judgedIn (λ l. judgedAt image l p map kind) (placeSaid (locatedBy t)) ≡ judgedBy image newest map kind p
+    judged-told : judgedIn (bind (placeSaid (locatedBy t)) (λ l. ok (judgedAt image l p map kind))) ≡ judgedBy image newest map kind p
     judged-told = judged-chunk other (place-told image newest c t tells ∙ ap (chunkAt image newest 8) e)
 
     pub judged-there : {l : Place} {n : ℕ} → t ≡ location.At l n → judgedAt image l p map kind ≡ judgedBy image newest map kind p
@@ -54,7 +54,7 @@ module _ (image : List ℕ) (newest : Chunk) (map : ℕ) (kind : Kind) (p : ℕ)
     where
       go : (t : Bool) (o : Outcome Place)
           → branch t (refuse outOfPlace) (bind o (λ c. pageIn image c p map kind))
-          ≡ pageOf image kind (branch t (judged.Refused outOfPlace) (judgedIn (λ c. judgedAt image c p map kind) o))
+          ≡ pageOf image kind (judgedIn (branch t (refuse outOfPlace) (bind o (λ c. ok (judgedAt image c p map kind)))))
       go true o = refl
       go false (ok c) = refl
       go false (refuse r) = refl
@@ -65,7 +65,7 @@ module _ (image : List ℕ) (newest : Chunk) (map : ℕ) (kind : Kind) (p : ℕ)
   judged-all = go (eqb p 0) (chunkAt image newest 8 (chunkOf p))
     where
       go : (t : Bool) (o : Outcome Place)
-          → Whole image kind (branch t (judged.Refused outOfPlace) (judgedIn (λ c. judgedAt image c p map kind) o))
+          → Whole image kind (judgedIn (branch t (refuse outOfPlace) (bind o (λ c. ok (judgedAt image c p map kind)))))
       go true o = tt
       go false (ok c) = judged-whole image c p map kind
       go false (refuse r) = tt
