@@ -113,18 +113,6 @@ fn count_from(image: &[u8], memory: &mut [u64], m: Map, root: Position) -> Count
     }
 }
 
-fn count_with(image: &[u8], memory: &mut [u64], m: Map) -> Counted
-    requires { ⌜ RightWords (now image) (m .newest) (now memory) ⌝ }
-    ensures { λ r. ⌜ r ≡ countedOf (countIn (now (image .entry)) (m .newest) (m .id) (m .kind)) ⌝ }
-{
-    let newest = m.newest;
-    let r = root_at(image, newest, memory, m.id);
-    match r {
-        Root::Refused(r) => Counted::Refused(r),
-        Root::At(p) => count_from(image, memory, m, p),
-    }
-}
-
 // How many entries the map has, by its root.
 pub fn count(image: &[u8], newest: Chunk, map: u32, kind: Kind) -> Counted
     ensures { λ r. ⌜ r ≡ countedOf (countIn (now (image .entry)) newest map kind) ⌝ }
@@ -134,10 +122,10 @@ pub fn count(image: &[u8], newest: Chunk, map: u32, kind: Kind) -> Counted
         id: map,
         kind,
     };
-    if image.len() < SMALL {
-        let mut memory = few_words();
-        return count_with(image, &mut memory, m);
-    }
     let mut memory = many_words();
-    count_with(image, &mut memory, m)
+    let r = root_at(image, newest, &mut memory, map);
+    match r {
+        Root::Refused(r) => Counted::Refused(r),
+        Root::At(p) => count_from(image, &mut memory, m, p),
+    }
 }

@@ -28,14 +28,11 @@ use metadata::located_by;
 use metadata::name_key;
 use read::root_at;
 use refusal::Refusal;
-use room::SMALL;
-use room::few_words;
 use room::many_words;
 pub use walking::advance;
 ghost use mathlib.Core.Path.{_≡_};
 ghost use Rattle.metadata.specs.Answers.{placeSaid, idSaid, rootSaid};
 ghost use Rattle.store.specs.Store.{metadataMap, chunkAt, namedMap, mapRoot};
-ghost use Rattle.store.specs.Memory.{RightWords};
 
 // A map that is asked: by the newest chunk of its store, its id and its kind.
 pub struct Map {
@@ -80,16 +77,12 @@ pub const QUESTIONS: u32 = 8;
 pub fn chunk_place(image: &[u8], newest: Chunk, chunk: u32) -> Located
     ensures { λ r. ⌜ placeSaid r ≡ chunkAt (now (image .entry)) newest 8 chunk ⌝ }
 {
-    if image.len() < SMALL {
-        let mut memory = few_words();
-        return located_by(locate(image, newest, &mut memory, chunk, QUESTIONS));
-    }
     let mut memory = many_words();
     located_by(locate(image, newest, &mut memory, chunk, QUESTIONS))
 }
 
-fn named_with(image: &[u8], newest: Chunk, memory: &mut [u64], name: &[u8]) -> Id
-    requires { ⌜ RightWords (now image) newest (now memory) ⌝ }
+// The id of the map that has a name.
+pub fn map_id(image: &[u8], newest: Chunk, name: &[u8]) -> Id
     ensures { λ r. ⌜ idSaid r ≡ namedMap (now (image .entry)) newest (now (name .entry)) ⌝ }
 {
     if NAME < name.len() {
@@ -100,30 +93,15 @@ fn named_with(image: &[u8], newest: Chunk, memory: &mut [u64], name: &[u8]) -> I
     let n = key.len;
     let m = Map::metadata(newest);
     let root = newest.root;
-    let f = descend(image, memory, m, root, &bytes[..n], QUESTIONS);
-    id_by(image, f)
-}
-
-// The id of the map that has a name.
-pub fn map_id(image: &[u8], newest: Chunk, name: &[u8]) -> Id
-    ensures { λ r. ⌜ idSaid r ≡ namedMap (now (image .entry)) newest (now (name .entry)) ⌝ }
-{
-    if image.len() < SMALL {
-        let mut memory = few_words();
-        return named_with(image, newest, &mut memory, name);
-    }
     let mut memory = many_words();
-    named_with(image, newest, &mut memory, name)
+    let f = descend(image, &mut memory, m, root, &bytes[..n], QUESTIONS);
+    id_by(image, f)
 }
 
 // The root of the map that has an id; the metadata is map 0.
 pub fn map_root(image: &[u8], newest: Chunk, map: u32) -> Root
     ensures { λ r. ⌜ rootSaid r ≡ mapRoot (now (image .entry)) newest map ⌝ }
 {
-    if image.len() < SMALL {
-        let mut memory = few_words();
-        return root_at(image, newest, &mut memory, map);
-    }
     let mut memory = many_words();
     root_at(image, newest, &mut memory, map)
 }

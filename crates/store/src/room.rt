@@ -1,5 +1,6 @@
-// The words in which a call remembers the chunks that it located. Each public function clears few or
-// many of them by the image's size, since clearing takes time, and lends them to what does the work.
+// The words in which a call remembers the chunks that it located. A public function makes them and
+// lends them to what does the work. Clearing many takes time, so where a call is asked again and again
+// (lookup, index, the walk's step) or judged by its time (the examination), a small image gets few.
 ghost use mathlib.Core.Path.{_≡_};
 ghost use lib.ListN.{replicate};
 

@@ -9,22 +9,13 @@ use Rattle.store.proofs.chunk_place.Statement.{statement}
 use Rattle.store.proofs.chunk_place.Tie as tie
 
 locate-requires : tie.Need-locate-requires
-locate-requires c κs = (omega arith, rw (c .before .few-words .ensures) (empty-right _ _ 512))
+locate-requires c κs = (omega arith, rw (c .before .many-words .ensures) (empty-right _ _ 8192))
 
 returns : tie.Need-returns
 returns c =
-    let a = c .before .before .before .before .before .before .before .args in
+    let a = c .before .before .before .before .before .before .args in
     let l = c .before .before .locate in
     ap placeSaid (c .located-by .ensures) ∙ place-told (now (a .image)) (a .newest) (a .chunk) (l .result) (l .ensures .1)
-
-locate-requires-2 : tie.Need-locate-requires-2
-locate-requires-2 c κs = (omega arith, rw (c .before .many-words .ensures) (empty-right _ _ 8192))
-
-returns-2 : tie.Need-returns-2
-returns-2 c =
-    let a = c .before .before .before .before .before .before .before .args in
-    let l = c .before .before .locate2 in
-    ap placeSaid (c .located-by2 .ensures) ∙ place-told (now (a .image)) (a .newest) (a .chunk) (l .result) (l .ensures .1)
 
 pub chunk-place-spec : {M : Type 1} → statement M
 chunk-place-spec =
@@ -34,9 +25,4 @@ chunk-place-spec =
     (λ c. search needs)
     locate-requires
     (λ c κs. search needs)
-    returns
-    (λ c κs. search needs)
-    (λ c. search needs)
-    locate-requires-2
-    (λ c κs. search needs)
-    returns-2)
+    returns)

@@ -1,19 +1,28 @@
+use mathlib.Core.Path.{_∙_}
+use denote.Ref.{now}
 use Rattle.store.specs.MemoryLaws.{empty-right}
+use Rattle.store.specs.AskLaws.{count-rooted, count-rootless}
 use borrow.Author.Needs.{needs}
 use Rattle.store.proofs.ask.count.Statement.{statement}
 use Rattle.store.proofs.ask.count.Tie as tie
 
-count-with-requires : tie.Need-count-with-requires
-count-with-requires c κs = rw (c .before .few-words .ensures) (empty-right _ _ 512)
+root-at-requires : tie.Need-root-at-requires
+root-at-requires c κs = rw (c .before .many-words .ensures) (empty-right _ _ 8192)
+
+count-from-requires : tie.Need-count-from-requires
+count-from-requires c κs = c .before .before .before .before .before .root-at .ensures .0
 
 returns : tie.Need-returns
-returns c = c .before .count-with .ensures
-
-count-with-requires-2 : tie.Need-count-with-requires-2
-count-with-requires-2 c κs = rw (c .before .many-words .ensures) (empty-right _ _ 8192)
+returns c =
+    let a = c .before .before .before .before .before .before .before .before .args in
+    let r = c .before .before .before .before .root-at in
+    count-rootless (now (a .image)) (a .newest) (a .map) (a .kind) (r .result) (r .ensures .1) (c .before .r .given .1)
 
 returns-2 : tie.Need-returns-2
-returns-2 c = c .before .count-with2 .ensures
+returns-2 c =
+    let a = c .before .before .before .before .before .before .before .before .before .before .before .args in
+    let r = c .before .before .before .before .before .before .before .root-at in
+    c .before .count-from .ensures ∙ count-rooted (now (a .image)) (a .newest) (a .map) (a .kind) (r .result) (r .ensures .1) (c .before .before .before .before .r2 .given .1)
 
 pub count-spec : {M : Type 1} → statement M
 count-spec =
@@ -21,9 +30,10 @@ count-spec =
     (tie.spec
     (λ c κs. search needs)
     (λ c. search needs)
-    count-with-requires
-    returns
-    (λ c κs. search needs)
+    root-at-requires
     (λ c. search needs)
-    count-with-requires-2
+    (λ c. search needs)
+    (λ c. search needs)
+    count-from-requires
+    returns
     returns-2)
