@@ -5,7 +5,8 @@
 --   idOf, rootOf            an id and a root by their hex digits
 --   namedId, namedRoot      the same by the value that the metadata has for a key, or by none
 --   needOf f                the questions that a lookup's answer took, 0 for a refusal
---   locatedBy, valueBy, idBy, rootBy    the answers by what was told of a chunk, or by what a lookup answered
+--   locationBy image n f    where chunk n stands by the answer of its lookup, with the questions that the lookup took
+--   locatedBy, valueBy, idBy, rootBy    the answers by a chunk's location, or by what a lookup answered
 --   placeSaid, idSaid, rootSaid  the answers of the code as outcomes
 use Prim.Native.Nat.{ℕ}
 use mathlib.Core.Bool.{cond}
@@ -24,8 +25,7 @@ use Rattle.chunk.specs.declared.Chunk.{Chunk}
 use Rattle.chunk.specs.declared.Standing.{Standing}
 use Rattle.chunk.specs.declared.Standing.the-variants.{Stands, Nothing}
 use Rattle.chunk.specs.Names.{givenOf, valueOf}
-use Rattle.chunk.specs.Chunk.{standsAt}
-use Rattle.chunk.specs.Chunk.{kept, hasId}
+use Rattle.chunk.specs.Chunk.{standsAt, kept, hasId}
 use Rattle.item.specs.Item.{Spot}
 use Rattle.page.specs.declared.Place.{Place}
 use Rattle.content.specs.Content.{Entry}
@@ -97,6 +97,16 @@ abbrev pub needOf : Answer → ℕ
 needOf (answer.Found at len need) = need
 needOf (answer.Absent need) = need
 needOf (answer.Refused r) = 0
+
+abbrev pub locationOf : ℕ → Outcome Place → Location
+locationOf need (ok l) = location.At l need
+locationOf need (refuse r) = location.Refused r
+
+-- "5: no entry, [..]"; "A refusal of such a lookup is handed up unchanged."
+unfoldable pub locationBy : List ℕ → ℕ → Answer → Location
+locationBy image n (answer.Found at len need) = locationOf need (placedAt (standingBy image n (record { at = at; len = len })))
+locationBy image n (answer.Absent need) = location.Refused notLocated
+locationBy image n (answer.Refused r) = location.Refused r
 
 unfoldable pub locatedBy : Location → Located
 locatedBy (location.At l need) = located.At l

@@ -20,7 +20,7 @@ use page::Place;
 use position::Position;
 use refusal::Refusal;
 ghost use mathlib.Core.Path.{_≡_};
-ghost use Rattle.metadata.specs.Answers.{placeOf, standingBy, idOf, rootOf, idSaid, rootSaid, locatedBy, valueBy, idBy, rootBy};
+ghost use Rattle.metadata.specs.Answers.{placeOf, standingBy, idOf, rootOf, idSaid, rootSaid, locationBy, locatedBy, valueBy, idBy, rootBy};
 
 // Where a chunk is, and the questions that locating it takes; or the refusal.
 pub enum Location {
@@ -69,7 +69,7 @@ pub fn place_of(c: Chunk) -> Place
 }
 
 // Chunk `n` where the metadata value at a place says that it stands.
-pub fn standing_by(image: &[u8], n: u32, at: usize, len: usize) -> Standing
+fn standing_by(image: &[u8], n: u32, at: usize, len: usize) -> Standing
     ensures { λ r. ⌜ r ≡ standingBy (now (image .entry)) n (record { at = at; len = len }) ⌝ }
 {
     let f = line::read_fields(chunk::area_at(image, at, len));
@@ -79,6 +79,26 @@ pub fn standing_by(image: &[u8], n: u32, at: usize, len: usize) -> Standing
         chunk::with_id(chunk::stands_at(image, values[Fields::BLOCK]), n as u64)
     } else {
         Standing::Nothing
+    }
+}
+
+// Where chunk `n` stands by the answer of its lookup; `need` is what the lookup took.
+pub fn location_by(image: &[u8], n: u32, f: Answer) -> Location
+    ensures { λ r. ⌜ r ≡ locationBy (now (image .entry)) n f ⌝ }
+{
+    match f {
+        Answer::Refused(r) => Location::Refused(r),
+        Answer::Absent { need: _ } => Location::Refused(Refusal::new(Refusal::NOT_LOCATED)),
+        Answer::Found { at, len, need } => {
+            let s = standing_by(image, n, at, len);
+            let Standing::Stands(c) = s else {
+                return Location::Refused(Refusal::new(Refusal::NOT_LOCATED));
+            };
+            Location::At {
+                place: place_of(c),
+                need,
+            }
+        }
     }
 }
 

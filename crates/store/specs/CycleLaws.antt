@@ -39,7 +39,7 @@ use Rattle.store.specs.Memory.{IsLocation, IsAnswer}
 use Rattle.store.specs.MemoryLaws.{recalled-known}
 use Rattle.store.specs.SettleLaws.{settled-tells, settled-right}
 use Rattle.metadata.specs.Descent.{foundStep, stepOf, advanceBy, advanceOf}
-use Rattle.store.specs.Steps.{settledTold, settledWords}
+use Rattle.store.specs.Steps.{settledLocation, settledWords}
 
 module _ (image : List ℕ) (newest : Chunk) where
   -- ## Locating a chunk
@@ -65,13 +65,13 @@ module _ (image : List ℕ) (newest : Chunk) where
   module _ (q c : ℕ) (ws : List ℕ) (f : Answer) (other : ¬ (c ≡ newest .id)) (some-left : ¬ (q ≡ 0)) (few : q ≤ 8)
       (right : RightWords image newest ws) (bytes : List ℕ) (is : bytes ≡ chunkKey c)
       (s : IsAnswer image newest 0 Text (newest .root .bits) (keyOf Text bytes) (q - 1) f) where
-    tells-by : IsLocation image newest q c (settledTold image c f)
+    tells-by : IsLocation image newest q c (settledLocation image c f)
     unfolding keyOf
     tells-by =
         let e : suc (q - 1) ≡ q = omega arith in
         rw e at (settled-tells image newest c (q - 1) other f (rw is at s))
 
-    pub tells-settled : (t : Location) (zs : List ℕ) → t ≡ settledTold image c f → zs ≡ settledWords c ws t
+    pub tells-settled : (t : Location) (zs : List ℕ) → t ≡ settledLocation image c f → zs ≡ settledWords c ws t
         → RightWords image newest zs × IsLocation image newest q c t
     tells-settled t zs e d = (rw (d, e) (settled-right image newest c q right (omega arith) f tells-by), rw e tells-by)
 

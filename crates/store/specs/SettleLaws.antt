@@ -21,13 +21,15 @@ use Rattle.key.specs.declared.Kind.{Kind}
 use Rattle.key.specs.declared.Kind.the-variants.{Text}
 use Rattle.key.specs.Key.{Key, text}
 use Rattle.locating.specs.StepLaws.{asked-refused, placed-refused, placed-known}
+use Rattle.page.specs.declared.Place.{Place}
+use Rattle.metadata.specs.declared.Location.the-variants as location
 use Rattle.metadata.specs.declared.Answer.{Answer}
 use Rattle.metadata.specs.declared.Answer.the-variants as answer
-use Rattle.metadata.specs.Answers.{bytesAt, placeOf, standingBy, needOf}
+use Rattle.metadata.specs.Answers.{bytesAt, placeOf, standingBy, placedAt, needOf, locationOf, locationBy}
 use Rattle.metadata.specs.Keys.{chunkKey}
 use Rattle.store.specs.Store.{metadata}
 use Rattle.store.specs.Memory.{RightWords, IsLocation, IsAnswer}
-use Rattle.store.specs.Steps.{toldBy, settledTold, settledWords}
+use Rattle.store.specs.Steps.{oneMore, settledLocation, settledWords}
 use Rattle.store.specs.MemoryLaws.{remembered-right}
 
 module _ (image : List ℕ) (n : ℕ) (v : Spot) {c : Chunk} (e : standingBy image n v ≡ Stands c) where
@@ -57,11 +59,22 @@ sought-few image newest map kind root k q (answer.Found at len need) t = t .2
 sought-few image newest map kind root k q (answer.Absent need) t = t .0
 sought-few image newest map kind root k q (answer.Refused r) t = omega arith
 
+-- a location takes the questions of the answer
+pub location-need : (image : List ℕ) (n : ℕ) (f : Answer) {l : Place} {need : ℕ} → locationBy image n f ≡ location.At l need → need ≡ needOf f
+unfolding locationBy
+location-need image n (answer.Refused r) e = cc
+location-need image n (answer.Absent m) e = cc
+location-need image n (answer.Found at len m) e = go (standingBy image n (record { at = at; len = len })) e
+  where
+    go : (s : Standing) {l : Place} {need : ℕ} → locationOf m (placedAt s) ≡ location.At l need → need ≡ m
+    go Nothing e = cc
+    go (Stands c) e = cc
+
 module _ (image : List ℕ) (newest : Chunk) (c q : ℕ) where
   module _ (other : ¬ (c ≡ newest .id)) where
     pub settled-tells : (f : Answer) → IsAnswer image newest 0 Text (newest .root .bits) (text (chunkKey c)) q f →
-        IsLocation image newest (suc q) c (settledTold image c f)
-    unfolding IsAnswer IsLocation settledTold
+        IsLocation image newest (suc q) c (settledLocation image c f)
+    unfolding IsAnswer IsLocation settledLocation locationBy
     settled-tells (answer.Refused r) t = asked-refused (metadata image newest) other q t
     settled-tells (answer.Absent need) t = placed-refused (metadata image newest) other (t .1) q (t .0) refl
     settled-tells (answer.Found at len need) (e, is, h, g) = go (standingBy image c v) refl
@@ -69,14 +82,14 @@ module _ (image : List ℕ) (newest : Chunk) (c q : ℕ) where
         v : Spot
         v = record { at = at; len = len }
 
-        go : (s : Standing) → standingBy image c v ≡ s → IsLocation image newest (suc q) c (toldBy need s)
+        go : (s : Standing) → standingBy image c v ≡ s → IsLocation image newest (suc q) c (oneMore (locationOf need (placedAt s)))
         go Nothing i = placed-refused (metadata image newest) other g q h (rw (is, i))
         go (Stands k) i = (omega arith, rw add-one (placed-known (metadata image newest) other g (rw (is, i))))
 
   module _ {ws : List ℕ} (right : RightWords image newest ws) (few : q < 16) where
-    pub settled-right : (f : Answer) → IsLocation image newest q c (settledTold image c f) →
-        RightWords image newest (settledWords c ws (settledTold image c f))
-    unfolding IsLocation settledTold settledWords
+    pub settled-right : (f : Answer) → IsLocation image newest q c (settledLocation image c f) →
+        RightWords image newest (settledWords c ws (settledLocation image c f))
+    unfolding IsLocation settledLocation settledWords locationBy
     settled-right (answer.Refused r) t = right
     settled-right (answer.Absent need) t = right
     settled-right (answer.Found at len need) t = go (standingBy image c v) refl t
@@ -84,8 +97,8 @@ module _ (image : List ℕ) (newest : Chunk) (c q : ℕ) where
         v : Spot
         v = record { at = at; len = len }
 
-        go : (s : Standing) → standingBy image c v ≡ s → IsLocation image newest q c (toldBy need s) →
-            RightWords image newest (settledWords c ws (toldBy need s))
+        go : (s : Standing) → standingBy image c v ≡ s → IsLocation image newest q c (oneMore (locationOf need (placedAt s))) →
+            RightWords image newest (settledWords c ws (oneMore (locationOf need (placedAt s))))
         go Nothing e t = right
         go (Stands k) e t =
             let held = standing-held image c v e in

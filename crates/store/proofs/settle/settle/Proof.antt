@@ -1,56 +1,35 @@
+use mathlib.Core.Path.{refl, sym, _∙_}
 use native.Mathlib.Omega.{arith}
-use mathlib.Core.Path.{refl, sym, ap, _∙_}
-use Rattle.metadata.specs.declared.Location.the-variants.{Refused}
-use Rattle.metadata.specs.Answers.{needOf}
-use Rattle.store.specs.Steps.{settledTold, settledWords}
+use Rattle.store.specs.Steps.{settledLocation, settledWords}
+use Rattle.store.specs.SettleLaws.{location-need}
 use borrow.Author.Needs.{needs}
 use Rattle.store.proofs.settle.settle.Statement.{statement}
 use Rattle.store.proofs.settle.settle.Tie as tie
 
-returns : tie.Need-returns
-unfolding settledTold settledWords
-returns c =
-    let found = c .before .before .before .before .before .f2 .given .1 in
-    (rw (found, ← c .before .before .before .standing-by .ensures, c .before .enum-told2 .given .1) (ap Refused (c .new2 .ensures)), refl)
-
 add-remember : tie.Need-add-remember
-add-remember c = omega (arith, ap needOf (c .before .before .before .before .before .before .before .f2 .given .1))
+add-remember c = omega (arith, location-need _ _ _ (sym (c .before .before .before .before .location-by .ensures) ∙ c .before .before .l2 .given .1), c .before .before .before .before .before .before .before .pre)
+
+add-t13 : tie.Need-add-t13
+add-t13 c = omega (arith, location-need _ _ _ (sym (c .before .before .before .before .before .before .before .location-by .ensures) ∙ c .before .before .before .before .before .l2 .given .1), c .before .before .before .before .before .before .before .before .before .before .pre)
+
+returns : tie.Need-returns
+unfolding settledLocation settledWords
+returns c = (rw (← c .before .before .before .location-by .ensures, c .before .l .given .1), refl)
 
 returns-2 : tie.Need-returns-2
-unfolding settledTold settledWords
-returns-2 c =
-    let a = c .before .before .before .before .before .args in
-    (sym (ap (settledTold (a .image .now) (a .n)) (c .before .f .given .1)), refl)
-
-returns-3 : tie.Need-returns-3
-unfolding settledTold settledWords
-returns-3 c = (rw (c .before .enum-told .given .1) (ap Refused (c .new .ensures)), refl)
-
-returns-4 : tie.Need-returns-4
-unfolding settledTold settledWords
-returns-4 c =
-    let found = c .before .before .before .before .before .before .before .before .before .before .f2 .given .1 in
-    let stands = c .before .before .before .before .before .before .s .given .1 in
-    (rw (found, ← c .before .before .before .before .before .before .before .before .standing-by .ensures, stands, c .before .before .before .before .place-of .ensures), c .before .before .remember .ensures)
+unfolding settledLocation settledWords
+returns-2 c = (rw (← c .before .before .before .before .before .before .before .location-by .ensures, c .before .before .before .before .before .l2 .given .1), c .before .before .remember .ensures)
 
 pub settle-spec : {M : Type 1} → statement M
 settle-spec =
     tie.close
     (tie.spec
-    (λ c. search needs)
-    (λ c. search needs)
-    (λ c κs. search needs)
-    (λ c. search needs)
     (λ c κs. search needs)
     (λ c. search needs)
     (λ c. search needs)
-    (λ c κs. search needs)
-    returns
-    (λ c κs. search needs)
     add-remember
     (λ c κs. search needs)
-    (λ c. omega (arith, ap needOf (c .before .before .before .before .before .before .before .before .before .before .f2 .given .1)))
-    returns-2
-    returns-3
+    add-t13
+    returns
     (λ c. search needs)
-    returns-4)
+    returns-2)
