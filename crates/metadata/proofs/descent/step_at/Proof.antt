@@ -1,4 +1,3 @@
-use mathlib.Core.Path.{sym, _∙_}
 use denote.Ref.{now}
 use Rattle.key.specs.Key.{keyOf}
 use Rattle.metadata.specs.DescentLaws.{page-refuses, leaf-has, leaf-lacks, inner-leads}
@@ -9,22 +8,22 @@ use Rattle.metadata.proofs.descent.step_at.Tie as tie
 returns : tie.Need-returns
 returns c =
     let a = c .before .before .before .before .before .before .args in
-    sym (page-refuses (now (a .image)) (a .place) (a .p .bits) (a .map) (a .kind) (keyOf (a .kind) (now (a .key))) (sym (c .before .before .before .judge .ensures) ∙ c .before .j .given .1))
+    page-refuses (now (a .image)) (a .place) (a .p .bits) (a .map) (a .kind) (keyOf (a .kind) (now (a .key))) (c .before .before .before .judge .ensures) (c .before .j .given .1)
 
 returns-2 : tie.Need-returns-2
 returns-2 c =
     let a = c .before .before .before .before .before .before .before .before .before .before .before .args in
-    sym (leaf-has (now (a .image)) (a .place) (a .p .bits) (a .map) (a .kind) (keyOf (a .kind) (now (a .key))) (sym (c .before .before .before .before .before .before .before .before .judge .ensures) ∙ c .before .before .before .before .before .before .j2 .given .1) _ (c .before .before .before .before .cut .ensures) (sym (c .before .before .before .find-key .ensures) ∙ c .before .f .given .1))
+    leaf-has (now (a .image)) (a .place) (a .p .bits) (a .map) (a .kind) (keyOf (a .kind) (now (a .key))) (c .before .before .before .before .before .before .before .before .judge .ensures) (c .before .before .before .before .before .before .j2 .given .1) (c .before .before .before .before .cut .ensures) (c .before .before .before .find-key .ensures) (c .before .f .given .1)
 
 returns-3 : tie.Need-returns-3
 returns-3 c =
     let a = c .before .before .before .before .before .before .before .before .before .before .args in
-    sym (leaf-lacks (now (a .image)) (a .place) (a .p .bits) (a .map) (a .kind) (keyOf (a .kind) (now (a .key))) (sym (c .before .before .before .before .before .before .before .judge .ensures) ∙ c .before .before .before .before .before .j2 .given .1) _ (c .before .before .before .cut .ensures) (sym (c .before .before .find-key .ensures) ∙ c .enum-told .given .1))
+    leaf-lacks (now (a .image)) (a .place) (a .p .bits) (a .map) (a .kind) (keyOf (a .kind) (now (a .key))) (c .before .before .before .before .before .before .before .judge .ensures) (c .before .before .before .before .before .j2 .given .1) (c .before .before .before .cut .ensures) (c .before .before .find-key .ensures) (c .enum-told .given .1)
 
 returns-4 : tie.Need-returns-4
 returns-4 c =
     let a = c .before .before .before .before .before .before .before .before .before .args in
-    sym (inner-leads (now (a .image)) (a .place) (a .p .bits) (a .map) (a .kind) (keyOf (a .kind) (now (a .key))) (sym (c .before .before .before .before .before .before .judge .ensures) ∙ c .before .before .before .before .j3 .given .1) _ (c .before .before .cut2 .ensures) (c .before .lead-keys .result) (c .child .result) (c .before .lead-keys .ensures) (c .child .ensures))
+    inner-leads (now (a .image)) (a .place) (a .p .bits) (a .map) (a .kind) (keyOf (a .kind) (now (a .key))) (c .before .before .before .before .before .before .judge .ensures) (c .before .before .before .before .j3 .given .1) (c .before .before .cut2 .ensures) (c .before .lead-keys .ensures) (c .child .ensures)
 
 pub step-at-spec : {M : Type 1} → statement M
 step-at-spec =
