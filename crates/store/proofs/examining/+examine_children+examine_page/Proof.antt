@@ -69,26 +69,18 @@ abbrev examine-children-μ-loop : examine-children-lts.MeasureT-loop
 examine-children-μ-loop image memory₀ m page levels kind r₀ lo₀ hi counts₀ keys₀ j₀ memory r lo counts keys j =
     page .n - j
 
-examine-children-meets : {M : Type 1} (t : ℕ) → examine-children-lts.Closed (
-  none-reads.Asked,
-  none-reads.Learnt,
-  child-at-reads.Asked,
-  child-at-reads.Learnt,
-  examine-page-below t,
-  examine-page.Post,
-  tally-reads.Asked,
-  tally-reads.Learnt,
-) (examine-children-at t) examine-children.Post M
-examine-children-meets t = examine-children-lts.spec (
-  none-reads.Asked,
-  none-reads.Learnt,
-  child-at-reads.Asked,
-  child-at-reads.Learnt,
-  examine-page-below t,
-  examine-page.Post,
-  tally-reads.Asked,
-  tally-reads.Learnt,
-)
+pub +examine-children+examine-page-spec : {M : Type 1} → statement M
++examine-children+examine-page-spec =
+    close μ-examine-children μ-examine-page (λ t. examine-children-lts.spec (
+      none-reads.Asked,
+      none-reads.Learnt,
+      child-at-reads.Asked,
+      child-at-reads.Learnt,
+      examine-page-below t,
+      examine-page.Post,
+      tally-reads.Asked,
+      tally-reads.Learnt,
+    )
     (examine-children-at t)
     examine-children.Post
     examine-children-Inv-loop
@@ -151,32 +143,18 @@ examine-children-meets t = examine-children-lts.spec (
           (c .before .before .before .before .before .before .before .before .examine-page .ensures .1) (c .before .before .before .before .before .tally .ensures)
           (c .before .before .before .t .given .1) (c .if1 .left),
       search needs,
-    ))
-
-examine-page-meets : {M : Type 1} (t : ℕ) → examine-page-lts.Closed (
-  new-reads.Asked,
-  new-reads.Learnt,
-  read-page-reads.Asked,
-  read-page-reads.Learnt,
-  part-at-reads.Asked,
-  part-at-reads.Learnt,
-  examine-children-below t,
-  examine-children.Post,
-  over-children-reads.Asked,
-  over-children-reads.Learnt,
-) (examine-page-at t) examine-page.Post M
-examine-page-meets t = examine-page-lts.spec (
-  new-reads.Asked,
-  new-reads.Learnt,
-  read-page-reads.Asked,
-  read-page-reads.Learnt,
-  part-at-reads.Asked,
-  part-at-reads.Learnt,
-  examine-children-below t,
-  examine-children.Post,
-  over-children-reads.Asked,
-  over-children-reads.Learnt,
-)
+    ))) (λ t. examine-page-lts.spec (
+      new-reads.Asked,
+      new-reads.Learnt,
+      read-page-reads.Asked,
+      read-page-reads.Learnt,
+      part-at-reads.Asked,
+      part-at-reads.Learnt,
+      examine-children-below t,
+      examine-children.Post,
+      over-children-reads.Asked,
+      over-children-reads.Learnt,
+    )
     (examine-page-at t)
     examine-page.Post
     (λ c κs. search needs)
@@ -223,8 +201,4 @@ examine-page-meets t = examine-page-lts.spec (
     let u = page-under (now (a .image)) (a .m .newest) (a .m .id) (a .m .kind) (a .levels) (a .top) (a .span .lo) (a .span .hi) (a .p .bits)
     (c .before .before .before .before .before .before .before .before .before .before .before .before .before .if1 .left) (e .1)
     (c .before .before .before .before .before .before .before .before .part-at .ensures) (c .before .before .before .before .before .before .part2 .given .1) in
-    (f .0, c .over-children .ensures ∙ ap overChildren (f .1) ∙ u .children))
-
-pub +examine-children+examine-page-spec : {M : Type 1} → statement M
-+examine-children+examine-page-spec =
-    close μ-examine-children μ-examine-page examine-children-meets examine-page-meets
+    (f .0, c .over-children .ensures ∙ ap overChildren (f .1) ∙ u .children)))

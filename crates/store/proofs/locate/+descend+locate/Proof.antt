@@ -59,19 +59,8 @@ descend-Inv-loop image memory₀ m key q newest kind p₀ need₀ left₀ memory
 abbrev descend-μ-loop : descend-lts.MeasureT-loop
 descend-μ-loop image memory₀ m key q newest kind p₀ need₀ left₀ memory p need left = left
 
-descend-meets : {M : Type 1} (t : ℕ) → descend-lts.Closed (
-  is-empty-reads.Asked,
-  is-empty-reads.Learnt,
-  new-reads.Asked,
-  new-reads.Learnt,
-  chunk-reads.Asked,
-  chunk-reads.Learnt,
-  locate-below t,
-  locate.Post,
-  advance-at-reads.Asked,
-  advance-at-reads.Learnt,
-) (descend-at t) descend.Post M
-descend-meets t = descend-lts.spec (
+pub +descend+locate-spec : {M : Type 1} → statement M
++descend+locate-spec = close μ-descend μ-locate (λ t. descend-lts.spec (
   is-empty-reads.Asked,
   is-empty-reads.Learnt,
   new-reads.Asked,
@@ -122,40 +111,22 @@ descend-meets t = descend-lts.spec (
     (λ c.
     let a = c .before .before .before .before .before .before .before .before .before .args in
     let l = c .before .before .loop in
-    (l .inv .0, sought-deep (now (a .image)) (a .m .newest) (a .m .id) (a .m .kind) (a .root .bits) (keyOf (a .m .kind) (now (a .key))) (a .q) (l .left) (omega arith) (l .inv .1) (c .new2 .ensures)))
-
-locate-meets : {M : Type 1} (t : ℕ) → locate-lts.Closed (
-  place-of-reads.Asked,
-  place-of-reads.Learnt,
-  recall-reads.Asked,
-  recall-reads.Learnt,
-  new-reads.Asked,
-  new-reads.Learnt,
-  chunk-key-reads.Asked,
-  chunk-key-reads.Learnt,
-  metadata-reads.Asked,
-  metadata-reads.Learnt,
-  descend-below t,
-  descend.Post,
-  settle-reads.Asked,
-  settle-reads.Learnt,
-) (locate-at t) locate.Post M
-locate-meets t = locate-lts.spec (
-  place-of-reads.Asked,
-  place-of-reads.Learnt,
-  recall-reads.Asked,
-  recall-reads.Learnt,
-  new-reads.Asked,
-  new-reads.Learnt,
-  chunk-key-reads.Asked,
-  chunk-key-reads.Learnt,
-  metadata-reads.Asked,
-  metadata-reads.Learnt,
-  descend-below t,
-  descend.Post,
-  settle-reads.Asked,
-  settle-reads.Learnt,
-)
+    (l .inv .0, sought-deep (now (a .image)) (a .m .newest) (a .m .id) (a .m .kind) (a .root .bits) (keyOf (a .m .kind) (now (a .key))) (a .q) (l .left) (omega arith) (l .inv .1) (c .new2 .ensures)))) (λ t. locate-lts.spec (
+      place-of-reads.Asked,
+      place-of-reads.Learnt,
+      recall-reads.Asked,
+      recall-reads.Learnt,
+      new-reads.Asked,
+      new-reads.Learnt,
+      chunk-key-reads.Asked,
+      chunk-key-reads.Learnt,
+      metadata-reads.Asked,
+      metadata-reads.Learnt,
+      descend-below t,
+      descend.Post,
+      settle-reads.Asked,
+      settle-reads.Learnt,
+    )
     (locate-at t)
     locate.Post
     (λ c κs. search needs)
@@ -195,7 +166,4 @@ locate-meets t = locate-lts.spec (
     let d = c .before .before .before .before .before .before .descend in
     let e = rw (c .before .before .before .before .before .before .before .before .before .before .metadata .ensures) at (d .ensures) in
     let key = c .before .before .before .before .before .before .before .before .before .before .before .before .chunk-key in
-    tells-settled (now (a .image)) (a .newest) (a .q) (a .c) _ (d .result) (c .before .before .before .before .before .before .before .before .before .before .before .before .before .before .before .before .before .if1 .left) (c .before .before .before .before .before .before .before .before .before .before .before .before .before .if3 .left) (c .before .before .before .before .before .before .before .before .before .before .before .before .before .before .before .before .before .before .before .before .before .pre .1 .0) (e .0) _ (rw (key .ensures) (padded-text 22 (chunkKey (a .c)))) (e .1) (c .before .before .settle .result) _ (c .before .before .settle .ensures .0) (c .before .before .settle .ensures .1))
-
-pub +descend+locate-spec : {M : Type 1} → statement M
-+descend+locate-spec = close μ-descend μ-locate descend-meets locate-meets
+    tells-settled (now (a .image)) (a .newest) (a .q) (a .c) _ (d .result) (c .before .before .before .before .before .before .before .before .before .before .before .before .before .before .before .before .before .if1 .left) (c .before .before .before .before .before .before .before .before .before .before .before .before .before .if3 .left) (c .before .before .before .before .before .before .before .before .before .before .before .before .before .before .before .before .before .before .before .before .before .pre .1 .0) (e .0) _ (rw (key .ensures) (padded-text 22 (chunkKey (a .c)))) (e .1) (c .before .before .settle .result) _ (c .before .before .settle .ensures .0) (c .before .before .settle .ensures .1)))
