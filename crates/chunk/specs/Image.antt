@@ -13,8 +13,8 @@ use Prim.Native.Nat.{ℕ, _*_, _-_, _/_}
 use mathlib.Core.Bool.{Bool, cond, _&&_}
 use mathlib.Core.List.{List}
 use lib.Dec.{eqb}
-use lib.ListN.{length, take, drop}
-use Rattle.text.specs.Text.{within}
+use lib.ListN.{length, take}
+use Rattle.text.specs.Text.{bytesAt, within}
 use Rattle.line.specs.declared.Line.{Line}
 use Rattle.line.specs.declared.Line.the-variants.{At, Nothing}
 use Rattle.line.specs.Line.{lineOf}
@@ -51,9 +51,6 @@ abbrev pub summed : List ℕ → Line → Reading
 summed area Nothing = noReading
 summed area (At n newline) = cond (rightSum (take n area)) (plain area (At n newline)) noReading
 
-abbrev pub areaAt : List ℕ → ℕ → ℕ → List ℕ
-areaAt image at n = take n (drop at image)
-
 abbrev pub plainLine : List ℕ → Reading
 plainLine area = plain area (lineOf area)
 
@@ -62,13 +59,13 @@ summedLine area = summed area (lineOf area)
 
 -- "Areas: a file header's block, a chunk header's first 1,024 bytes, a footer's 128 bytes."
 unfoldable pub headerLine : List ℕ → ℕ → Reading
-headerLine image c = summedLine (areaAt image (c * blockBytes) blockBytes)
+headerLine image c = summedLine (bytesAt image (c * blockBytes) blockBytes)
 
 unfoldable pub chunkLine : List ℕ → ℕ → Reading
-chunkLine image b = plainLine (areaAt image (b * blockBytes) 1024)
+chunkLine image b = plainLine (bytesAt image (b * blockBytes) 1024)
 
 unfoldable pub footerLine : List ℕ → ℕ → Reading
-footerLine image e = summedLine (areaAt image (e * blockBytes - 128) 128)
+footerLine image e = summedLine (bytesAt image (e * blockBytes - 128) 128)
 
 -- ## What a reading says of a name
 abbrev pub gives : Reading → List ℕ → Bool

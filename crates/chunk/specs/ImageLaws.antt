@@ -1,17 +1,16 @@
 -- Laws of the image, its blocks and its lines.
 use Prim.Native.Nat.{ℕ, _*_, _-_, _^_, _<_, _≤_}
-use mathlib.Core.Path.{_≡_, refl, sym, _∙_}
+use mathlib.Core.Path.{_≡_, refl, _∙_}
 use mathlib.Core.Bool.{Bool, true, false}
 use mathlib.Core.List.{List}
 use native.Mathlib.Omega.{arith}
-use lib.ListN.{length, drop, length-take, length-drop, drop-of-length-le}
-use lib.Seq.{take-all, take-nil}
-use Rattle.text.specs.Laws.{within-true}
+use Rattle.text.specs.Text.{bytesAt}
+use Rattle.text.specs.Laws.{within-true, bytes-length}
 use Rattle.line.specs.declared.Line.{Line}
 use Rattle.line.specs.declared.Line.the-variants.{At, Nothing}
 use Rattle.line.specs.Line.{lineOf}
 use Rattle.line.specs.LineLaws.{line-inside}
-use Rattle.chunk.specs.Image.{blockBytes, blocksOf, sizeRight, blocksIn, plain, areaAt, plainLine, chunkLine}
+use Rattle.chunk.specs.Image.{blockBytes, blocksOf, sizeRight, blocksIn, plain, plainLine, chunkLine}
 
 -- ## Blocks
 module _ (image : List ℕ) where
@@ -45,27 +44,12 @@ module _ (image : List ℕ) where
       go true e = omega (arith, blocks-right e, within-true 3 268435456 (blocksOf image) e .1)
       go false e = omega (arith, blocks-wrong e)
 
--- ## Areas
-module _ (image : List ℕ) (at n : ℕ) where
-  pub area-past : length image ≤ at → areaAt image (length image) (length image - length image) ≡ areaAt image at n
-  area-past h =
-      let end : length image ≤ length image = omega arith in
-      rw (drop-of-length-le image h, drop-of-length-le image end) (take-nil (length image - length image) ∙ sym (take-nil n))
-
-  pub area-last : length image - at ≤ n → areaAt image at (length image - at) ≡ areaAt image at n
-  area-last h =
-      take-all (length image - at) (drop at image) (rw (length-drop at image) (omega arith)) ∙
-      sym (take-all n (drop at image) (rw (length-drop at image) (omega arith)))
-
-  pub area-length : length (areaAt image at n) ≤ n
-  area-length = rw (length-take n (drop at image)) (omega arith)
-
 -- "block 524287 starts at byte 2147479552, block 524288 at 2147483648": no 32 bits hold what follows
-pub block-524287 : (image : List ℕ) → chunkLine image 524287 ≡ plainLine (areaAt image 2147479552 1024)
+pub block-524287 : (image : List ℕ) → chunkLine image 524287 ≡ plainLine (bytesAt image 2147479552 1024)
 unfolding chunkLine
 block-524287 image = refl
 
-pub block-524288 : (image : List ℕ) → chunkLine image 524288 ≡ plainLine (areaAt image 2147483648 1024)
+pub block-524288 : (image : List ℕ) → chunkLine image 524288 ≡ plainLine (bytesAt image 2147483648 1024)
 unfolding chunkLine
 block-524288 image = refl
 
@@ -76,8 +60,8 @@ unfolding chunkLine
 newline-small image b = go (lineOf area) refl
   where
     area : List ℕ
-    area = areaAt image (b * blockBytes) 1024
+    area = bytesAt image (b * blockBytes) 1024
 
     go : (l : Line) → lineOf area ≡ l → plain area l .newline < 1024
     go Nothing e = omega arith
-    go (At n newline) e = omega (arith, line-inside area n newline e .inside, area-length image (b * blockBytes) 1024)
+    go (At n newline) e = omega (arith, line-inside area n newline e .inside, bytes-length image (b * blockBytes) 1024)

@@ -4,7 +4,7 @@ use line::Line;
 ghost use Prim.Native.Nat.{_*_};
 ghost use mathlib.Core.Path.{_≡_};
 ghost use Rattle.chunk.specs.Names.{givenAt, valueAt};
-ghost use Rattle.chunk.specs.Image.{blockBytes, areaAt, blocksIn, noReading, saysAt, plainLine, summedLine, headerLine, chunkLine, footerLine};
+ghost use Rattle.chunk.specs.Image.{blockBytes, blocksIn, noReading, saysAt, plainLine, summedLine, headerLine, chunkLine, footerLine};
 
 // What a line says, and where its newline stands in its area.
 pub struct Reading {
@@ -80,21 +80,6 @@ fn start_of(b: u32) -> usize
     b as usize * 4096
 }
 
-// The `n` bytes at `at`, or as many of them as stand in the image.
-pub fn area_at(image: &[u8], at: usize, n: usize) -> &[u8]
-    ensures { λ r. ⌜ now r ≡ areaAt (now (image .entry)) at n ⌝ }
-{
-    let end = image.len();
-    if end <= at {
-        return &image[end..end];
-    }
-    if end - at <= n {
-        return &image[at..end];
-    }
-    let to = at + n;
-    &image[at..to]
-}
-
 // What the line of an area says.
 fn plain_line(area: &[u8]) -> Reading
     ensures { λ r. ⌜ r ≡ plainLine (now (area .entry)) ⌝ }
@@ -127,14 +112,14 @@ fn summed_line(area: &[u8]) -> Reading
 pub fn header_line(image: &[u8], copy: u32) -> Reading
     ensures { λ r. ⌜ r ≡ headerLine (now (image .entry)) copy ⌝ }
 {
-    summed_line(area_at(image, start_of(copy), 4096))
+    summed_line(text::bytes_at(image, start_of(copy), 4096))
 }
 
 // The chunk header in block `b`.
 pub fn chunk_line(image: &[u8], b: u32) -> Reading
     ensures { λ r. ⌜ r ≡ chunkLine (now (image .entry)) b ⌝ }
 {
-    plain_line(area_at(image, start_of(b), 1024))
+    plain_line(text::bytes_at(image, start_of(b), 1024))
 }
 
 // The footer in the last 128 bytes before block `e`.
@@ -143,7 +128,7 @@ pub fn footer_line(image: &[u8], e: u32) -> Reading
 {
     let end = start_of(e);
     if end < 128 {
-        return summed_line(area_at(image, 0, 128));
+        return summed_line(text::bytes_at(image, 0, 128));
     }
-    summed_line(area_at(image, end - 128, 128))
+    summed_line(text::bytes_at(image, end - 128, 128))
 }

@@ -2,7 +2,6 @@
 mod image;
 
 pub use image::Reading;
-pub use image::area_at;
 pub use image::blocks_in;
 pub use image::chunk_line;
 pub use image::footer_line;

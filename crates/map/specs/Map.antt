@@ -26,7 +26,7 @@ use Rattle.opening.specs.Opening.{opened}
 use Rattle.content.specs.Content.{Entry, keyIn}
 use Rattle.store.specs.declared.Fetched.{Fetched}
 use Rattle.store.specs.declared.Fetched.the-variants as fetched
-use Rattle.metadata.specs.Answers.{bytesAt}
+use Rattle.metadata.specs.Answers.{valueBytes}
 use Rattle.store.specs.Store.{mapId}
 use Rattle.store.specs.Asking.{lookupIn, indexIn, countIn}
 use Rattle.map.specs.declared.Target.{Target}
@@ -118,6 +118,6 @@ itemBy image kind (fetched.Refused r) = item.Refused r
 
 -- "A copy writes the value at the area's start and nothing after it."; "lent areas keep their bytes"
 unfoldable pub areaAfter : List ℕ → Outcome (Option Entry) → List ℕ → List ℕ
-areaAfter image (ok (some e)) area = bytesAt image (e .value) ++ drop (e .value .len) area
+areaAfter image (ok (some e)) area = valueBytes image (e .value) ++ drop (e .value .len) area
 areaAfter image (ok none) area = area
 areaAfter image (refuse r) area = area

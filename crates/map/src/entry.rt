@@ -31,7 +31,7 @@ pub fn item_at(image: &[u8], kind: Kind, key: usize, size: usize, at: usize, len
 {
     match kind {
         Kind::Number => {
-            let bits = numeral::be64(chunk::area_at(image, key, size), 0);
+            let bits = numeral::be64(text::bytes_at(image, key, size), 0);
             Item::Number {
                 key: key::signed(bits),
                 at,

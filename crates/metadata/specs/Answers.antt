@@ -1,6 +1,6 @@
 -- What the metadata's answers say, after document 01, "Where a chunk is" and "Asking".
 --
---   bytesAt image spot      the bytes at a spot
+--   valueBytes image spot   the bytes of the value at a spot
 --   standingBy image n v    the chunk n that stands where the metadata value at v says, if it does
 --   idOf, rootOf            an id and a root by their hex digits
 --   namedId, namedRoot      the same by the value that the metadata has for a key, or by none
@@ -12,9 +12,8 @@ use Prim.Native.Nat.{ℕ}
 use mathlib.Core.Bool.{cond}
 use mathlib.Core.List.{List}
 use mathlib.Core.Option.{Option, none, some}
-use lib.ListN.{take, drop}
 use Rattle.refusal.specs.Refusal.{Outcome, ok, refuse, notLocated, noSuchName, notANumber}
-use Rattle.text.specs.Text.{within}
+use Rattle.text.specs.Text.{bytesAt, within}
 use Rattle.numeral.specs.declared.hex.Number.{Number}
 use Rattle.numeral.specs.declared.hex.Number.the-variants as number
 use Rattle.numeral.specs.Hex.{hexOf}
@@ -42,8 +41,8 @@ use Rattle.metadata.specs.declared.Root.the-variants as root
 use Rattle.metadata.specs.declared.Value.{Value}
 use Rattle.metadata.specs.declared.Value.the-variants as value
 
-abbrev pub bytesAt : List ℕ → Spot → List ℕ
-bytesAt image s = take (s .len) (drop (s .at) image)
+abbrev pub valueBytes : List ℕ → Spot → List ℕ
+valueBytes image s = bytesAt image (s .at) (s .len)
 
 -- ## Where a chunk is
 -- what a page's rules need of the chunk that it stands in
@@ -55,7 +54,7 @@ abbrev pub standsBy : List ℕ → ℕ → Fields → Standing
 standsBy image n f = cond (givenOf f nameBlock) (kept (hasId n) (standsAt image (valueOf f nameBlock))) Nothing
 
 unfoldable pub standingBy : List ℕ → ℕ → Spot → Standing
-standingBy image n v = standsBy image n (readOf (bytesAt image v))
+standingBy image n v = standsBy image n (readOf (valueBytes image v))
 
 -- "5: [..] unusable entry, or chunk not standing there"
 abbrev pub placedAt : Standing → Outcome Place
@@ -74,11 +73,11 @@ rootOf number.Bad = refuse notANumber
 
 abbrev pub namedId : List ℕ → Option Entry → Outcome ℕ
 namedId image none = refuse noSuchName
-namedId image (some e) = idOf (hexOf (bytesAt image (e .value)))
+namedId image (some e) = idOf (hexOf (valueBytes image (e .value)))
 
 abbrev pub namedRoot : List ℕ → Option Entry → Outcome ℕ
 namedRoot image none = ok 0
-namedRoot image (some e) = rootOf (hexOf (bytesAt image (e .value)))
+namedRoot image (some e) = rootOf (hexOf (valueBytes image (e .value)))
 
 -- ## What the code hands back
 abbrev pub placeSaid : Located → Outcome Place
@@ -118,11 +117,11 @@ valueBy (answer.Absent need) = value.Absent
 valueBy (answer.Refused r) = value.Refused r
 
 unfoldable pub idBy : List ℕ → Answer → Outcome ℕ
-idBy image (answer.Found at len need) = idOf (hexOf (bytesAt image (record { at = at; len = len })))
+idBy image (answer.Found at len need) = idOf (hexOf (valueBytes image (record { at = at; len = len })))
 idBy image (answer.Absent need) = refuse noSuchName
 idBy image (answer.Refused r) = refuse r
 
 unfoldable pub rootBy : List ℕ → Answer → Outcome ℕ
-rootBy image (answer.Found at len need) = rootOf (hexOf (bytesAt image (record { at = at; len = len })))
+rootBy image (answer.Found at len need) = rootOf (hexOf (valueBytes image (record { at = at; len = len })))
 rootBy image (answer.Absent need) = ok 0
 rootBy image (answer.Refused r) = refuse r

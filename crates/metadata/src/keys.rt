@@ -83,7 +83,7 @@ pub fn name_key(name: &[u8]) -> NameKey
 {
     let mut bytes = [0u8; 1005];
     put(&mut bytes, 0, b"name.");
-    let part = chunk::area_at(name, 0, NAME);
+    let part = text::bytes_at(name, 0, NAME);
     put(&mut bytes, 5, part);
     NameKey {
         bytes,

@@ -72,7 +72,7 @@ pub fn place_of(c: Chunk) -> Place
 fn standing_by(image: &[u8], n: u32, at: usize, len: usize) -> Standing
     ensures { λ r. ⌜ r ≡ standingBy (now (image .entry)) n (record { at = at; len = len }) ⌝ }
 {
-    let f = line::read_fields(chunk::area_at(image, at, len));
+    let f = line::read_fields(text::bytes_at(image, at, len));
     let given = f.given;
     let values = f.values;
     if given[Fields::BLOCK] {
@@ -143,7 +143,7 @@ pub fn id_by(image: &[u8], f: Answer) -> Id
 {
     match f {
         Answer::Found { at, len, need: _ } => {
-            id_of(numeral::read_hex(chunk::area_at(image, at, len)))
+            id_of(numeral::read_hex(text::bytes_at(image, at, len)))
         }
         Answer::Absent { need: _ } => Id::Refused(Refusal::new(Refusal::NO_SUCH_NAME)),
         Answer::Refused(r) => Id::Refused(r),
@@ -165,7 +165,7 @@ pub fn root_by(image: &[u8], f: Answer) -> Root
 {
     match f {
         Answer::Found { at, len, need: _ } => {
-            root_of(numeral::read_hex(chunk::area_at(image, at, len)))
+            root_of(numeral::read_hex(text::bytes_at(image, at, len)))
         }
         Answer::Absent { need: _ } => Root::At(Position {
             bits: Position::EMPTY,

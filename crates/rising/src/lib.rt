@@ -43,8 +43,8 @@ fn key_below(image: &[u8], kind: Kind, at: usize, len: usize, other: usize, size
 {
     is_less(key::compare(
         kind,
-        chunk::area_at(image, at, len),
-        chunk::area_at(image, other, size),
+        text::bytes_at(image, at, len),
+        text::bytes_at(image, other, size),
     ))
 }
 
@@ -52,8 +52,8 @@ fn key_below(image: &[u8], kind: Kind, at: usize, len: usize, other: usize, size
 fn number_below(image: &[u8], at: usize, other: usize) -> bool
     ensures { λ r. ⌜ r ≡ below compareKeys (keyIn (now (image .entry)) Kind.Number (record { at = at; len = 8 })) (keyIn (now (image .entry)) Kind.Number (record { at = other; len = 8 })) ⌝ }
 {
-    let a = numeral::be64(chunk::area_at(image, at, 8), 0);
-    let b = numeral::be64(chunk::area_at(image, other, 8), 0);
+    let a = numeral::be64(text::bytes_at(image, at, 8), 0);
+    let b = numeral::be64(text::bytes_at(image, other, 8), 0);
     is_less(key::compare_numbers(a, b))
 }
 

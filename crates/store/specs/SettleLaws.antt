@@ -25,7 +25,7 @@ use Rattle.page.specs.declared.Place.{Place}
 use Rattle.metadata.specs.declared.Location.the-variants as location
 use Rattle.metadata.specs.declared.Answer.{Answer}
 use Rattle.metadata.specs.declared.Answer.the-variants as answer
-use Rattle.metadata.specs.Answers.{bytesAt, placeOf, standingBy, placedAt, needOf, locationOf, locationBy}
+use Rattle.metadata.specs.Answers.{valueBytes, placeOf, standingBy, placedAt, needOf, locationOf, locationBy}
 use Rattle.metadata.specs.Keys.{chunkKey}
 use Rattle.store.specs.Store.{metadata}
 use Rattle.store.specs.Memory.{RightWords, IsLocation, IsAnswer}
@@ -38,7 +38,7 @@ module _ (image : List ℕ) (n : ℕ) (v : Spot) {c : Chunk} (e : standingBy ima
   standing-stood = go (givenOf f nameBlock) e
     where
       f : Fields
-      f = readOf (bytesAt image v)
+      f = readOf (valueBytes image v)
 
       b : ℕ
       b = valueOf f nameBlock

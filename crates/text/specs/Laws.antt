@@ -1,5 +1,5 @@
 -- Laws of runs of bytes.
-use Prim.Native.Nat.{ℕ, zero, suc, _+_, _<_, _≤_}
+use Prim.Native.Nat.{ℕ, zero, suc, _+_, _-_, _<_, _≤_}
 use mathlib.Core.Path.{_≡_, refl, sym, _∙_, ap}
 use mathlib.Core.Bool.{Bool, true, false, cond, not, _&&_, true≢false}
 use mathlib.Core.List.{List, [], _∷_}
@@ -7,9 +7,23 @@ use native.Mathlib.Numerals.{add-one}
 use native.Mathlib.Omega.{arith}
 use borrow.Author.Tests.{ltb-true, ltb-false, leb-true, le-leb, eq-eqb, ne-eqb, eqb-true}
 use lib.Dec.{eqb, ltb, leb, eqb·suc-suc, eqb·zero-suc}
-use lib.ListN.{length, getD, take, drop, drop-of-length-le}
-use lib.Seq.{drop-cons}
-use Rattle.text.specs.Text.{span, every, within, isNot, same, split, toFirst}
+use lib.ListN.{length, getD, take, drop, length-take, length-drop, drop-of-length-le}
+use lib.Seq.{drop-cons, take-all, take-nil}
+use Rattle.text.specs.Text.{bytesAt, span, every, within, isNot, same, split, toFirst}
+
+-- ## The bytes at a place
+module _ (s : List ℕ) (i n : ℕ) where
+  pub bytes-past : length s ≤ i → bytesAt s (length s) (length s - length s) ≡ bytesAt s i n
+  bytes-past h =
+      let end : length s ≤ length s = omega arith in
+      rw (drop-of-length-le s h, drop-of-length-le s end) (take-nil (length s - length s) ∙ sym (take-nil n))
+
+  pub bytes-last : length s - i ≤ n → bytesAt s i (length s - i) ≡ bytesAt s i n
+  bytes-last h =
+      take-all (length s - i) (drop i s) (rw (length-drop i s) (omega arith)) ∙ sym (take-all n (drop i s) (rw (length-drop i s) (omega arith)))
+
+  pub bytes-length : length (bytesAt s i n) ≤ n
+  bytes-length = rw (length-take n (drop i s)) (omega arith)
 
 -- ## A run from an index on, as a loop goes through it
 module _ (P : ℕ → Bool) (s : List ℕ) (i : ℕ) where

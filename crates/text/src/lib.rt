@@ -1,8 +1,23 @@
 // Runs of bytes. Definitions and laws in specs/; here the searches and tests that code makes of them.
 ghost use Prim.Native.Nat.{_+_, _<_, _≤_};
 ghost use mathlib.Core.Path.{_≡_};
-ghost use Rattle.text.specs.Text.{span, isNot, isLetter, every, isPrintable, same};
+ghost use Rattle.text.specs.Text.{bytesAt, span, isNot, isLetter, every, isPrintable, same};
 ghost use lib.ListN.{length, take, drop};
+
+// The `n` bytes at `at`, or as many of them as there are.
+pub fn bytes_at(s: &[u8], at: usize, n: usize) -> &[u8]
+    ensures { λ r. ⌜ now r ≡ bytesAt (now (s .entry)) at n ⌝ }
+{
+    let end = s.len();
+    if end <= at {
+        return &s[end..end];
+    }
+    if end - at <= n {
+        return &s[at..end];
+    }
+    let to = at + n;
+    &s[at..to]
+}
 
 // The place of the first `b` from `from` on; where there is none, the place after the last byte.
 pub fn find_byte(s: &[u8], from: usize, b: u8) -> usize

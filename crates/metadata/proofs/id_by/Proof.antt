@@ -9,7 +9,7 @@ use Rattle.metadata.proofs.id_by.Tie as tie
 
 returns : tie.Need-returns
 unfolding idBy
-returns c = rw (c .before .before .before .before .f .given .1) (c .id-of .ensures ∙ ap idOf (c .before .read-hex .ensures ∙ ap hexOf (c .before .before .area-at .ensures)))
+returns c = rw (c .before .before .before .before .f .given .1) (c .id-of .ensures ∙ ap idOf (c .before .read-hex .ensures ∙ ap hexOf (c .before .before .bytes-at .ensures)))
 
 returns-2 : tie.Need-returns-2
 unfolding idBy

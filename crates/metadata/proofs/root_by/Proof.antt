@@ -8,7 +8,7 @@ use Rattle.metadata.proofs.root_by.Tie as tie
 
 returns : tie.Need-returns
 unfolding rootBy
-returns c = rw (c .before .before .before .before .f .given .1) (c .root-of .ensures ∙ ap rootOf (c .before .read-hex .ensures ∙ ap hexOf (c .before .before .area-at .ensures)))
+returns c = rw (c .before .before .before .before .f .given .1) (c .root-of .ensures ∙ ap rootOf (c .before .read-hex .ensures ∙ ap hexOf (c .before .before .bytes-at .ensures)))
 
 returns-2 : tie.Need-returns-2
 unfolding rootBy

@@ -9,12 +9,12 @@ returns : tie.Need-returns
 unfolding standingBy slotOf numberOf same
 returns c =
     let f = c .before .before .before .before .before in
-    rw (← f .before .area-at .ensures, ← f .read-fields .ensures, c .before .before .if1 .taken, ← c .before .stands-at .ensures)
+    rw (← f .before .bytes-at .ensures, ← f .read-fields .ensures, c .before .before .if1 .taken, ← c .before .stands-at .ensures)
     (c .with-id .ensures)
 
 returns-2 : tie.Need-returns-2
 unfolding standingBy slotOf numberOf same
-returns-2 c = rw (← c .before .before .before .before .area-at .ensures, ← c .before .before .before .read-fields .ensures, c .if1 .left)
+returns-2 c = rw (← c .before .before .before .before .bytes-at .ensures, ← c .before .before .before .read-fields .ensures, c .if1 .left)
 
 pub standing-by-spec : {M : Type 1} → statement M
 standing-by-spec =

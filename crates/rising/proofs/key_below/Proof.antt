@@ -7,7 +7,7 @@ returns : tie.Need-returns
 unfolding keyIn
 returns c =
     let o = c .before in
-    rw (← o .before .before .area-at .ensures, ← o .before .area-at2 .ensures, ← o .compare .ensures) (c .is-less .ensures)
+    rw (← o .before .before .bytes-at .ensures, ← o .before .bytes-at2 .ensures, ← o .compare .ensures) (c .is-less .ensures)
 
 pub key-below-spec : {M : Type 1} → statement M
 key-below-spec =

@@ -8,7 +8,7 @@ returns : tie.Need-returns
 unfolding keyIn keyOf compareKeys
 returns c =
     let o = c .before in
-    rw (← o .before .before .before .before .area-at .ensures, ← o .before .before .before .be64 .ensures, ← o .before .before .area-at2 .ensures, ← o .before .be642 .ensures, ← o .compare-numbers .ensures) (c .is-less .ensures)
+    rw (← o .before .before .before .before .bytes-at .ensures, ← o .before .before .before .be64 .ensures, ← o .before .before .bytes-at2 .ensures, ← o .before .be642 .ensures, ← o .compare-numbers .ensures) (c .is-less .ensures)
 
 pub number-below-spec : {M : Type 1} → statement M
 number-below-spec =

@@ -5,7 +5,7 @@ use Rattle.chunk.proofs.image.chunk_line.Tie as tie
 
 returns : tie.Need-returns
 unfolding chunkLine
-returns c = rw (← c .before .before .start-of .ensures, ← c .before .area-at .ensures) (c .plain-line .ensures)
+returns c = rw (← c .before .before .start-of .ensures, ← c .before .bytes-at .ensures) (c .plain-line .ensures)
 
 pub chunk-line-spec : {M : Type 1} → statement M
 chunk-line-spec =

@@ -12,11 +12,11 @@ returns c =
     let c3 = c .before .before .before in
     let c5 = c3 .before .before in
     let z : c5 .args .e * blockBytes - 128 ≡ 0 = omega (arith, c3 .start-of .ensures) in
-    rw (z, ← c .before .area-at .ensures) (c .summed-line .ensures)
+    rw (z, ← c .before .bytes-at .ensures) (c .summed-line .ensures)
 
 returns-2 : tie.Need-returns-2
 unfolding footerLine
-returns-2 c = rw (← c .before .before .before .start-of .ensures, ← c .before .area-at2 .ensures) (c .summed-line2 .ensures)
+returns-2 c = rw (← c .before .before .before .start-of .ensures, ← c .before .bytes-at2 .ensures) (c .summed-line2 .ensures)
 
 pub footer-line-spec : {M : Type 1} → statement M
 footer-line-spec =

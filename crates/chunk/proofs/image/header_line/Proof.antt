@@ -5,7 +5,7 @@ use Rattle.chunk.proofs.image.header_line.Tie as tie
 
 returns : tie.Need-returns
 unfolding headerLine
-returns c = rw (← c .before .before .start-of .ensures, ← c .before .area-at .ensures) (c .summed-line .ensures)
+returns c = rw (← c .before .before .start-of .ensures, ← c .before .bytes-at .ensures) (c .summed-line .ensures)
 
 pub header-line-spec : {M : Type 1} → statement M
 header-line-spec =

@@ -7,7 +7,7 @@ use Rattle.map.proofs.entry.item_at.Tie as tie
 returns : tie.Need-returns
 returns c =
     let a = c .before .before .before .before .before .before .args in
-    search (needs, item-number (now (a .image)) (a .kind) (a .key) (a .size) (a .at) (a .len) (c .before .before .before .enum-told .given .1) (c .signed .ensures) (c .before .be64 .ensures) (c .before .before .area-at .ensures))
+    search (needs, item-number (now (a .image)) (a .kind) (a .key) (a .size) (a .at) (a .len) (c .before .before .before .enum-told .given .1) (c .signed .ensures) (c .before .be64 .ensures) (c .before .before .bytes-at .ensures))
 
 returns-2 : tie.Need-returns-2
 returns-2 c =

@@ -9,12 +9,12 @@ use Rattle.metadata.proofs.keys.name_key.Statement.{statement}
 use Rattle.metadata.proofs.keys.name_key.Tie as tie
 
 put-requires-2 : tie.Need-put-requires-2
-put-requires-2 c κs = omega (arith, ap length (c .before .area-at .ensures), length-take 1000 (c .before .before .before .before .before .before .before .args .name .now))
+put-requires-2 c κs = omega (arith, ap length (c .before .bytes-at .ensures), length-take 1000 (c .before .before .before .before .before .before .before .args .name .now))
 
 returns : tie.Need-returns
 returns c =
     let s = take 1000 (c .before .before .before .before .before .before .before .before .before .args .name .now) in let fits : 5 + length s ≤ 1005 = omega (arith, length-take 1000 (c .before .before .before .before .before .before .before .before .before .args .name .now)) in
-    rw (c .before .put2 .ensures, c .before .before .before .before .before .put .ensures, c .before .before .before .area-at .ensures, key-built 1005 prefixName s fits, length-append prefixName s)
+    rw (c .before .put2 .ensures, c .before .before .before .before .before .put .ensures, c .before .before .before .bytes-at .ensures, key-built 1005 prefixName s fits, length-append prefixName s)
 
 pub name-key-spec : {M : Type 1} → statement M
 name-key-spec =
