@@ -70,5 +70,6 @@ abbrev pub kept : (Chunk → Bool) → Standing → Standing
 kept P Nothing = Nothing
 kept P (Stands c) = cond (P c) (Stands c) Nothing
 
+-- "with the header's chunk id"; "where chunk N must stand"
 abbrev pub hasId : ℕ → Chunk → Bool
 hasId id k = eqb (k .id) id

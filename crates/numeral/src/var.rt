@@ -44,8 +44,8 @@ fn any_var(s: &[u8], at: usize, limit: u64) -> Numeral
     join(low, any_var(s, at + 1, (limit - low - 1) / 128 + 1))
 }
 
-// The same. Most numbers have one byte or two, and those take no further call: one that hands a slice
-// on takes longer than all the rest.
+// The same. Most numbers have one byte or two, and those take no further call: handing the slice on to
+// one would take longer than the reading.
 pub fn read_var(s: &[u8], at: usize, limit: u64) -> Numeral
     ensures { λ r. ⌜ r ≡ varAt limit (now (s .entry)) at ⌝ }
 {
