@@ -6,7 +6,7 @@ use mathlib.Core.Path.{_≡_, sym, _∙_}
 use mathlib.Core.Logic.{_↔_}
 use mathlib.Core.Bool.{true}
 use mathlib.Core.List.{List}
-use Rattle.refusal.specs.Refusal.{Outcome, ok}
+use Rattle.refusal.specs.Refusal.{Outcome}
 use Rattle.key.specs.declared.Kind.{Kind}
 use Rattle.key.specs.Key.{Key, keyOf, wellFormed, compareKeys}
 use Rattle.key.specs.Laws.{key-order}

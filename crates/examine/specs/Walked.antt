@@ -23,9 +23,8 @@ use Rattle.store.specs.AskLaws.{entries-key}
 use Rattle.store.specs.Walk.{stepIn, Walks}
 use Rattle.store.specs.WalkedLaws.{sound-walks}
 use Rattle.map.specs.Map.{openedBy, openedStore}
-use Rattle.walk.specs.declared.Step.{Step}
 use Rattle.walk.specs.declared.Next.the-variants as next
-use Rattle.walk.specs.Stepping.{entryNext, stepOf, WalksOf}
+use Rattle.walk.specs.Stepping.{stepOf, WalksOf}
 use Rattle.walk.specs.Given.{nextBy, stepBy}
 use Rattle.walk.specs.WalkLaws.{after-open, step-asked, step-done}
 use Rattle.examine.specs.Demand3.{Map, entryList, Passes}

@@ -2,10 +2,8 @@
 use Prim.Native.Nat.{ℕ}
 use mathlib.Core.Path.{_≡_, refl, ap}
 use mathlib.Core.List.{List}
-use lib.IntN.{ℤ}
-use Rattle.order.specs.declared.Order.{Order}
-use Rattle.order.specs.declared.Order.the-variants.{Less, Equal, Greater}
-use Rattle.order.specs.Order.{turned, TotalOrder, compareNat, compareInt, lex}
+use Rattle.order.specs.declared.Order.the-variants.{Less, Equal}
+use Rattle.order.specs.Order.{turned, TotalOrder}
 use Rattle.order.specs.Instances.{nat-order, int-order, lex-order}
 use Rattle.key.specs.Key.{Key, number, text, textsOrder, compareKeys}
 

@@ -12,9 +12,8 @@
 use Prim.Native.Nat.{ℕ}
 use mathlib.Core.Path.{_≡_}
 use mathlib.Core.Option.{Option}
-use lib.Dec.{eqb}
-use Rattle.refusal.specs.Refusal.{Outcome, ok, refuse, bind, outOfPlace}
-use Rattle.tree.specs.Page.{branch, Page}
+use Rattle.refusal.specs.Refusal.{Outcome, ok}
+use Rattle.tree.specs.Page.{Page}
 use Rattle.tree.specs.Asking.{lookup, mapLookup}
 use Rattle.locating.specs.Locating.{Metadata, readAt, located, gate}
 

@@ -2,7 +2,7 @@
 --
 --   LeafPassed, InnerPassed    its parts follow one another, up to its end
 --   Passed image kind j        the same of what a page was judged to be
-use Prim.Native.Nat.{ℕ, zero, suc, _+_, _-_, _^_, _<_}
+use Prim.Native.Nat.{ℕ, zero, suc, _+_, _^_, _<_}
 use mathlib.Core.Path.{_≡_, refl, ap}
 use mathlib.Core.List.{List, [], _∷_}
 use mathlib.Core.Bool.{Bool, true, false, cond}

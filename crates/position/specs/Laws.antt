@@ -6,9 +6,7 @@ use native.Mathlib.Nat.{div-div-eq-div-mul, mul-le-mul}
 use native.Mathlib.Omega.{arith}
 use borrow.Author.Tests.{lt-ltb, eqb-true, eqb-false}
 use lib.Pow.{pow-mono}
-use Rattle.position.specs.declared.Position.{Position}
-use Rattle.position.specs.declared.Made.{Made}
-use Rattle.position.specs.declared.Made.the-variants.{At, OutOfRange}
+use Rattle.position.specs.declared.Made.the-variants.{At}
 use Rattle.position.specs.Position.{chunks, offsets, codes, types, chunkOf, offsetOf, codeOf, typeOf, isEmpty, positionOf, madeOf}
 
 -- the fields of any 64 bits make them again

@@ -1,18 +1,17 @@
 -- What the theory of maps needs of the reading of an image's pages: leaves have fewer than 2^31 entries, inner pages record fewer
 -- than 2^48.
-use Prim.Native.Nat.{ℕ, _^_, _<_}
-use mathlib.Core.Path.{_≡_, refl}
+use Prim.Native.Nat.{ℕ, _^_}
+use mathlib.Core.Path.{_≡_}
 use mathlib.Core.Bool.{Bool, true, false}
 use mathlib.Core.List.{List}
 use native.Mathlib.Omega.{arith}
 use lib.Dec.{eqb}
-use lib.ListN.{length}
-use Rattle.refusal.specs.Refusal.{Outcome, ok, refuse, bind, outOfPlace}
+use Rattle.refusal.specs.Refusal.{ok, refuse, bind, outOfPlace}
 use Rattle.position.specs.Position.{chunkOf}
 use Rattle.key.specs.declared.Kind.{Kind}
 use Rattle.key.specs.Key.{Key}
 use Rattle.chunk.specs.declared.Chunk.{Chunk}
-use Rattle.tree.specs.Page.{branch, Children, Page, leaf, inner, total}
+use Rattle.tree.specs.Page.{branch, Page, leaf, inner}
 use Rattle.tree.specs.OutcomeLaws.{refuse-ok, bind-ok}
 use Rattle.tree.specs.Bounds.{ReadsBelow}
 use Rattle.page.specs.declared.Place.{Place}

@@ -14,7 +14,7 @@ use mathlib.Core.List.{List}
 use mathlib.Core.Option.{Option}
 use lib.Dec.{eqb, ltb}
 use lib.ListN.{length}
-use Rattle.refusal.specs.Refusal.{Outcome, ok, refuse, bind, badArgument, outOfPlace}
+use Rattle.refusal.specs.Refusal.{Outcome, ok, refuse, bind, badArgument}
 use Rattle.position.specs.Position.{chunkOf}
 use Rattle.key.specs.declared.Kind.{Kind}
 use Rattle.key.specs.declared.Kind.the-variants.{Text}

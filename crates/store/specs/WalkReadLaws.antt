@@ -2,7 +2,7 @@
 --
 --   FirstBy p a           what the first child or entry a of the page at p says of the leftmost way
 --   NextBy .. l p a       what a, which follows number l at the page at p, says of the way by the numbers
-use Prim.Native.Nat.{ℕ, zero, suc, _+_, _-_, _≤_, _<_}
+use Prim.Native.Nat.{ℕ, zero, suc, _+_, _≤_, _<_}
 use mathlib.Core.Path.{_≡_, refl, _∙_, ap}
 use mathlib.Core.Bool.{Bool, true, false, cond}
 use mathlib.Core.Logic.{_⊎_, inl, inr, ⊎-elim}

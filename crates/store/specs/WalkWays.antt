@@ -2,7 +2,7 @@
 --
 --   EndsLeft .. level p m     m is the leftmost entry under the page at p, which `level` numbers lead to
 --   EndsDown .. nums root d   d is where the way down from the root by the numbers nums ends
-use Prim.Native.Nat.{ℕ, suc, _+_, _-_, _≤_, _<_}
+use Prim.Native.Nat.{ℕ, suc, _-_, _≤_, _<_}
 use mathlib.Core.Path.{_≡_}
 use mathlib.Core.List.{List, [], _++_}
 use lib.ListN.{length, getD, take, replicate}

@@ -1,4 +1,3 @@
-use native.Mathlib.Omega.{arith}
 use mathlib.Core.Bool.{or-false}
 use borrow.Author.Tests.{le-leb, lt-leb}
 use Rattle.text.proofs.is_capital.Statement.{statement}
