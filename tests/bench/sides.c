@@ -32,7 +32,7 @@ static int64_t key_of(uint64_t i)
 
 static uint64_t plain_root(struct store *s)
 {
-    const struct rules rules = {.edition = 1, .fold = 0};
+    const struct rules rules = {.edition = 1, .fold = 1};
     uint64_t root;
     must(!naive_open(s, asked.image, asked.bytes, rules), "plain open");
     must(!naive_root(s, MAP, &root), "plain root");

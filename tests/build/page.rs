@@ -97,9 +97,20 @@ impl PagePlan {
         self.fields().len() as u64 + 6
     }
 
+    /// The length as written.
+    fn claimed_length(&self) -> u64 {
+        self.length.unwrap_or(self.true_length())
+    }
+
+    /// Gives the page the check value of 01, which leaves the upper halves out, in a chunk of this id.
+    pub fn check_low_bits(&mut self, chunk: u64) {
+        let low = (chunk ^ self.offset ^ self.claimed_length()) & 0xffff;
+        self.check_xor = low ^ check_value(chunk, self.offset, self.claimed_length());
+    }
+
     /// The page's bytes in a chunk of this id.
     pub fn bytes(&self, chunk: u64) -> Vec<u8> {
-        let length = self.length.unwrap_or(self.true_length());
+        let length = self.claimed_length();
         let check = check_value(chunk, self.offset, length) ^ self.check_xor;
         let head = [(length as u32).to_be_bytes().to_vec(), (check as u16).to_be_bytes().to_vec()];
         [head.concat(), self.fields()].concat()

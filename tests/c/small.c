@@ -4,6 +4,7 @@
 #include <stdio.h>
 #include <string.h>
 
+#include "check_value.h"
 #include "fields.h"
 #include "fletcher.h"
 
@@ -29,8 +30,9 @@ static int64_t position(uint64_t chunk, const uint8_t *image, const uint8_t *sta
 static uint8_t *page_end(page *p, const uint8_t *image)
 {
     uint32_t len = (uint32_t)(p->at - p->start);
-    uint32_t sum = 1 ^ (uint32_t)(p->start - image - (ptrdiff_t)CHUNK) ^ len;
-    uint8_t head[6] = {0, 0, (uint8_t)(len >> 8), (uint8_t)len, (uint8_t)(sum >> 8), (uint8_t)sum};
+    uint16_t check = check_value(1, (uint32_t)(p->start - image - (ptrdiff_t)CHUNK), len);
+    uint8_t head[6] = {0, 0, (uint8_t)(len >> 8), (uint8_t)len,
+                       (uint8_t)(check >> 8), (uint8_t)check};
     memcpy(p->start, head, sizeof head);
     return p->at;
 }

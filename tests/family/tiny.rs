@@ -48,6 +48,23 @@ impl Tiny {
         leaf.code = smallest_code(length);
     }
 
+    /// Gives the one chunk another id, in its lines and in the file headers.
+    pub fn set_chunk(&mut self, id: u64) {
+        let chunk = &mut self.plan.chunks[0];
+        chunk.id = id;
+        chunk.header.set("chunk", id);
+        chunk.footer.set("chunk", id);
+        self.plan.name_chunk(0);
+    }
+
+    /// The image as it was before C-13: each page has the low 16 bits as its check value.
+    pub fn low_bits_image(mut self) -> Vec<u8> {
+        for chunk in &mut self.plan.chunks {
+            chunk.pages.iter_mut().for_each(|page| page.check_low_bits(chunk.id));
+        }
+        self.image()
+    }
+
     /// The image, with `root.1` and the chunk's root saying where the pages are.
     pub fn image(mut self) -> Vec<u8> {
         let root = self.root.unwrap_or(self.plan.position(self.leaf));

@@ -5,6 +5,7 @@
 #include <stdlib.h>
 #include <string.h>
 
+#include "check_value.h"
 #include "fletcher.h"
 
 #define BLOCK ((size_t)4096)
@@ -222,9 +223,9 @@ static void mend_page(mending *m, uint64_t position, int depth)
         return;
     m->left--;
     uint8_t *page = m->image + m->chunks[i].at + offset;
-    uint64_t sum = id ^ offset ^ big_endian(page, 4);
-    page[4] = (uint8_t)(sum >> 8);
-    page[5] = (uint8_t)sum;
+    uint16_t check = check_value((uint32_t)id, (uint32_t)offset, (uint32_t)big_endian(page, 4));
+    page[4] = (uint8_t)(check >> 8);
+    page[5] = (uint8_t)check;
     mend_below(m, (rest){page + 6, room - (size_t)offset - 6}, depth);
 }
 

@@ -53,7 +53,12 @@ pub fn bound(code: u64) -> Option<u64> {
     (code < UNBOUNDED).then(|| (2 + code % 2) << (4 + code / 2))
 }
 
-/// "check value (2 bytes: the low 16 bits of chunk id xor offset xor length)"
+/// "check value (2 bytes: [..] chunk id xor offset xor length)", each of them folded.
 pub fn check_value(chunk: u64, offset: u64, length: u64) -> u64 {
-    (chunk ^ offset ^ length) & 0xffff
+    folded(chunk) ^ folded(offset) ^ folded(length)
+}
+
+/// 02, C-13: "folds each of the three numbers first: its upper 16 bits xor its lower 16 bits"
+fn folded(number: u64) -> u64 {
+    number >> 16 ^ number & 0xffff
 }

@@ -2,6 +2,7 @@
 
 use super::bytes_word;
 use crate::build::page::variable;
+use crate::model::position::check_value;
 
 pub fn questions() -> Vec<String> {
     [sums(), fills(), hexes(), big_endians(), variables(), positions(), bounds(), checks()].concat()
@@ -146,13 +147,25 @@ fn bounds() -> Vec<String> {
     codes.map(|code| format!("bound {code:x}")).collect()
 }
 
-/// 01's example (e), and numbers past 16 bits in each place.
+/// Chunk id, offset and length, and the check value that another program gives for them: 01's example
+/// (e), 02's of C-13, and numbers at and past 16 bits in each place.
+#[rustfmt::skip]
+const CHECKS: [([u64; 3], u64); 7] = [
+    ([1, 0x13e, 0xc8], 0x1f7), ([1, 0x1_2345, 0xc8], 0x238d), ([0x1_0000, 0x13e, 0xc8], 0x1f7),
+    ([1, 0x1_013e, 0xc8], 0x1f6), ([1, 0x13e, 0x1_00c8], 0x1f6), ([1, 0x1_0000, 0xc8], 0xc8),
+    ([0x3ff_ffff, 0xffff_ffff, 0xffff_ffff], 0xfc00),
+];
+
+/// These, and more of the kind.
 #[rustfmt::skip]
 fn checks() -> Vec<String> {
-    let cases: [[u64; 3]; 10] = [
-        [1, 318, 200], [0, 0, 0], [1, 0x12345, 0xc8], [0x3ff_ffff, 0xffff_ffff, 0xffff_ffff],
-        [0x3ff_ffff, 0, 0], [0, 0xffff_ffff, 0], [0, 0, 0x10_0000], [0x1_0000, 0x1_0000, 9],
-        [2, 1024, 9], [0xabcdef, 0x1234_5678, 0x9abc],
+    for ([chunk, offset, length], due) in CHECKS {
+        assert_eq!(check_value(chunk, offset, length), due, "check {chunk:x} {offset:x} {length:x}");
+    }
+    let more: [[u64; 3]; 7] = [
+        [0, 0, 0], [0x3ff_ffff, 0, 0], [0, 0xffff_ffff, 0], [0, 0, 0x10_0000],
+        [0x1_0000, 0x1_0000, 9], [2, 1024, 9], [0xabcdef, 0x1234_5678, 0x9abc],
     ];
-    cases.iter().map(|[c, o, l]| format!("check {c:x} {o:x} {l:x}")).collect()
+    let all = CHECKS.iter().map(|(numbers, _)| numbers).chain(&more);
+    all.map(|[c, o, l]| format!("check {c:x} {o:x} {l:x}")).collect()
 }

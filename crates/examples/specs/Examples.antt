@@ -19,7 +19,7 @@ use Rattle.numeral.specs.BigEndian.{bigEndian, bigEndianAt}
 use Rattle.numeral.specs.Var.{continued, varFrom, limited, varAt}
 use Rattle.position.specs.declared.Bound.{Bound}
 use Rattle.position.specs.declared.Bound.the-variants.{Most, Unbounded}
-use Rattle.position.specs.Position.{chunkOf, offsetOf, codeOf, typeOf, boundOf, checkOf}
+use Rattle.position.specs.Position.{chunkOf, offsetOf, codeOf, typeOf, boundOf, folded, checkOf}
 use Rattle.line.specs.Field.{Field, fieldOf}
 use Rattle.line.specs.Line.{trimmed, lineOf}
 use Rattle.line.specs.Fields.{has, valueIn, noneTwice, allFields, fieldsOf, readOf, lastComma, rightSum}
@@ -128,6 +128,6 @@ Right e = e .given ≡ e .due
 pub all-right : All Right examples
 unfolding examples reduced start addWord sums fletcherOf trimmed lineOf has valueIn noneTwice allFields fieldsOf readOf
     lastComma rightSum numberOf slotOf fieldOf span every same split digitOf hexFrom shaped hexOf bigEndian bigEndianAt
-    continued varFrom limited varAt boundOf checkOf keyOf compareKeys headerLine formatRight namesAll namesAny copyOf
+    continued varFrom limited varAt boundOf folded checkOf keyOf compareKeys headerLine formatRight namesAll namesAny copyOf
 all-right =
     (refl, (refl, (refl, (refl, (refl, (refl, (refl, (refl, (refl, (refl, (refl, (refl, (refl, (refl, (refl, (refl, tt))))))))))))))))

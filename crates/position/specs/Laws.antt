@@ -1,13 +1,14 @@
--- Laws of positions: making and taking apart are inverse.
+-- Laws of positions: making and taking apart are inverse. Of check values: numbers below 65,536 have 01's.
 use Prim.Native.Nat.{ℕ, _+_, _*_, _/_, _%_, _^_, _<_, _≤_}
 use mathlib.Core.Path.{_≡_, sym, ap, _∙_}
 use mathlib.Core.Bool.{Bool, true, false}
-use native.Mathlib.Nat.{div-div-eq-div-mul, mul-le-mul}
+use native.Mathlib.Nat.{div-div-eq-div-mul, mul-le-mul, div-eq-of-lt, mod-eq-of-lt}
 use native.Mathlib.Omega.{arith}
 use borrow.Author.Tests.{lt-ltb, eqb-true, eqb-false}
+use lib.Bits.{bitXor, xor-lt}
 use lib.Pow.{pow-mono}
 use Rattle.position.specs.declared.Made.the-variants.{At}
-use Rattle.position.specs.Position.{chunks, offsets, codes, types, chunkOf, offsetOf, codeOf, typeOf, isEmpty, positionOf, madeOf}
+use Rattle.position.specs.Position.{chunks, offsets, codes, types, chunkOf, offsetOf, codeOf, typeOf, isEmpty, positionOf, madeOf, folded, checkOf}
 
 -- the fields of any 64 bits make them again
 pub position-of-fields : (p : ℕ) → positionOf (chunkOf p) (offsetOf p) (codeOf p) (typeOf p) ≡ p
@@ -45,6 +46,18 @@ bound-small code h =
     let most : (2 + code % 2) * 2 ^ (4 + code / 2) ≤ 3 * 2 ^ 19 =
     mul-le-mul {n₁ = 2 + code % 2} {m₁ = 2 ^ (4 + code / 2)} {n₂ = 3} {m₂ = 2 ^ 19} (omega arith) unit in
     omega (arith, most)
+
+-- ## Check values
+folded-of-small : (x : ℕ) → x < 2 ^ 16 → folded x ≡ x
+unfolding folded
+folded-of-small x h = rw (div-eq-of-lt h, mod-eq-of-lt h)
+
+-- 02, C-13: "Below 65,536 nothing changes."
+pub check-of-small : (c o n : ℕ) → c < 2 ^ 16 → o < 2 ^ 16 → n < 2 ^ 16 → checkOf c o n ≡ bitXor (bitXor c o) n % 2 ^ 16
+unfolding checkOf
+check-of-small c o n hc ho hn =
+    rw (folded-of-small c hc, folded-of-small o ho, folded-of-small n hn)
+    (sym (mod-eq-of-lt (xor-lt 16 (bitXor c o) n (xor-lt 16 c o hc ho) hn)))
 
 -- ## Empty or not, by the code's test
 module _ {b : Bool} {p : ℕ} (e : b ≡ isEmpty p) where

@@ -11,6 +11,7 @@
 --   madeOf c o k t         the same, or out of range where a field is wider than its bits
 --   boundOf k              the most bytes that the length code k allows
 --   holdsLength k n        n is within the bound of the code k
+--   folded x               the upper 16 bits of x xor its lower 16 bits
 --   checkOf c o n          the check value of a page of length n at offset o of chunk c
 use Prim.Native.Nat.{ℕ, _+_, _*_, _/_, _%_, _^_}
 use mathlib.Core.Bool.{Bool, true, cond, _&&_}
@@ -73,6 +74,11 @@ holds Unbounded n = true
 abbrev pub holdsLength : ℕ → ℕ → Bool
 holdsLength code n = holds (boundOf code) n
 
--- "check value (2 bytes: the low 16 bits of chunk id xor offset xor length)"
+-- 02, C-13, in the place of 01's "the low 16 bits": "The public H2 source folds each of the three numbers first: its upper 16 bits
+-- xor its lower 16 bits."
+unfoldable pub folded : ℕ → ℕ
+folded x = bitXor (x / 2 ^ 16) (x % 2 ^ 16)
+
+-- "check value (2 bytes: [..] chunk id xor offset xor length)"
 unfoldable pub checkOf : ℕ → ℕ → ℕ → ℕ
-checkOf chunk offset length = bitXor (bitXor chunk offset) length % 2 ^ 16
+checkOf chunk offset length = bitXor (bitXor (folded chunk) (folded offset)) (folded length)

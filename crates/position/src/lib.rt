@@ -1,6 +1,6 @@
 // A page's position: 26 bits chunk id, 32 bits offset in the chunk, 5 bits length code, 1 bit type.
 ghost use mathlib.Core.Path.{_≡_};
-ghost use Rattle.position.specs.Position.{chunkOf, offsetOf, codeOf, typeOf, isEmpty, madeOf, boundOf, holdsLength, checkOf};
+ghost use Rattle.position.specs.Position.{chunkOf, offsetOf, codeOf, typeOf, isEmpty, madeOf, boundOf, holdsLength, folded, checkOf};
 
 pub struct Position {
     pub bits: u64,
@@ -117,9 +117,16 @@ pub fn holds_length(code: u32, length: u32) -> bool
     }
 }
 
-// The check value of a page.
+// The upper half of a number xor its lower half.
+fn fold(x: u32) -> u16
+    ensures { λ r. ⌜ r ≡ folded x ⌝ }
+{
+    (x / 65536) as u16 ^ (x % 65536) as u16
+}
+
+// The check value of a page, as H2 writes it.
 pub fn check_value(chunk: u32, offset: u32, length: u32) -> u16
     ensures { λ r. ⌜ r ≡ checkOf chunk offset length ⌝ }
 {
-    ((chunk ^ offset ^ length) % 65536) as u16
+    fold(chunk) ^ fold(offset) ^ fold(length)
 }

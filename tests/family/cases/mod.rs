@@ -1,6 +1,7 @@
-//! The cases, by 01's sections.
+//! The cases, by 01's sections and 02's requests.
 
 mod asking;
+mod checks;
 mod deep;
 mod examining;
 mod headers;
@@ -30,7 +31,7 @@ pub fn all() -> Vec<(Base, Vec<Case>)> {
     ];
     vec![
         (base::standard_base(), join(standard)),
-        (base::tiny_base(), place::cases()),
+        (base::tiny_base(), join(vec![place::cases(), checks::cases()])),
         (base::single_base(), headers::cases()),
         (base::lone_base(), standing::cases()),
         (base::forked_base(), opening::cases()),

@@ -5,7 +5,7 @@ use crate::build::page::{measured, variable, PagePlan};
 use crate::family::case::{join, Case};
 use crate::family::questions::*;
 use crate::family::standard::{Standard, MIDDLE, OLD};
-use crate::family::tiny::tiny_with;
+use crate::family::tiny::{tiny_with, Tiny};
 
 pub fn cases() -> Vec<Case> {
     join(vec![heads(), leaves(), text_leaves(), long_keys(), long_values(), inners(), accepted()])
@@ -149,14 +149,19 @@ fn long_keys() -> Vec<Case> {
     ]
 }
 
+/// The least store in a chunk of 20 blocks; its second value has so many bytes.
+pub fn with_value(length: usize) -> Tiny {
+    let mut store = tiny_with(159, 20);
+    store.leaf().offset = 8192;
+    store.leaf().values[1] = measured(&vec![0; length]);
+    store.leaf().code = 31;
+    store
+}
+
 /// A value of 65,535 bytes is read, one of 65,536 is not, though all its bytes are there.
 fn long_values() -> Vec<Case> {
-    let edited = |name, length: usize| {
-        let mut store = tiny_with(159, 20);
-        store.leaf().offset = 8192;
-        store.leaf().values[1] = measured(&vec![0; length]);
-        store.leaf().code = 31;
-        Case::new(name, "a variable-size length up to 65,535", store.image())
+    let edited = |name, length| {
+        Case::new(name, "a variable-size length up to 65,535", with_value(length).image())
     };
     vec![
         edited("value-of-65535-bytes", 65535)
