@@ -54,7 +54,7 @@ begins c offset = leb (c .first) offset && leb (startOf c + offset + 9) (footerA
 
 -- "length (4 bytes, at least 9, within the code's bound, ending no later than the footer begins)"
 unfoldable pub lengthFits : ℕ → ℕ → ℕ → Bool
-lengthFits code n room = leb 9 n && (leb n room && holdsLength code n)
+lengthFits code n room = leb 9 n && (holdsLength code n && leb n room)
 
 -- "A field that can't be read is 10"
 abbrev pub onSkip : Skip → (ℕ → Judged) → Judged

@@ -93,10 +93,10 @@ fn length_fits(code: u32, n: u32, room: usize) -> bool
     if n < 9 {
         return false;
     }
-    if room < n as usize {
+    if position::holds_length(code, n) {} else {
         return false;
     }
-    position::holds_length(code, n)
+    n as usize <= room
 }
 
 // How a kind's keys are written.
