@@ -31,7 +31,7 @@ pub fn answer(question: &str) -> Option<String> {
     let bytes = |i: usize| word_bytes(words.get(i)?);
     Some(match words[0] {
         "sum" => plain(fletcher(&bytes(1)?)),
-        "fill" => plain(fletcher(&vec![number(1)? as u8; number(2)? as usize])),
+        "fill" | "words" => plain(fletcher(&vec![number(1)? as u8; number(2)? as usize])),
         "hex" => digits_value(&bytes(1)?).map_or("bad".to_string(), plain),
         "digits" => bytes_word(&digits(number(1)?)),
         "be" => plain(big_endian(&bytes(3)?, number(2)?, number(1)?).unwrap_or(0)),

@@ -7,6 +7,7 @@
 //! | question | answer |
 //! |---|---|
 //! | `sum BYTES`, `fill BYTE COUNT` | the fletcher value |
+//! | `words BYTE COUNT` | the same as of `fill`, to be found a word at a time |
 //! | `hex BYTES`, `digits NUMBER` | the value or `bad`; the digits as a byte string |
 //! | `be WIDTH AT BYTES` | the number, 0 where the bytes do not all stand there |
 //! | `var LIMIT AT BYTES` | `VALUE NEXT` or `bad` |

@@ -40,13 +40,14 @@ fn sum(text: &[u8]) -> String {
     format!("sum {}", bytes_word(text))
 }
 
-/// Long texts: H2's own ten thousand bytes of value 10, zeros, and runs around 360 words.
+/// Long texts: H2's own ten thousand bytes of value 10, and runs around 360 and 720 words, where
+/// sums that were not reduced in time would pass 2^32.
 fn fills() -> Vec<String> {
     let mut out = vec!["fill a 2710".to_string()];
     for byte in [0, 1, 0x61, 0x80, 0xfe, 0xff] {
-        for count in [0, 1, 2, 3, 0x2ce, 0x2d0, 0x2d1, 0x2d2, 0x5a0, 0xff8, 0x10000] {
-            out.push(format!("fill {byte:x} {count:x}"));
-        }
+        let counts = [0..=3, 718..=723, 1440..=1443, 4088..=4088, 65536..=65536];
+        out.extend(counts.into_iter().flatten().map(|count| format!("fill {byte:x} {count:x}")));
+        out.extend([0, 2, 722, 1442, 65536].map(|count| format!("words {byte:x} {count:x}")));
     }
     out
 }

@@ -12,6 +12,22 @@ fn sum(question: &[u8]) {
     output::number(fletcher::sum_text(&area[..n]));
 }
 
+// The fletcher value of the first `n` bytes, or of all where there are fewer.
+fn sum_first(bytes: &[u8], n: usize) -> u64 {
+    if n < bytes.len() {
+        return fletcher::sum_text(&bytes[..n]);
+    }
+    fletcher::sum_text(bytes)
+}
+
+// `fill BYTE COUNT`: the fletcher value of a text of so many times the byte, at most 65,536.
+fn fill(question: &[u8]) {
+    let byte = (script::number(question, 1, 16) % 256) as u8;
+    let n = script::number(question, 2, 16) as usize;
+    let area = [byte; 65536];
+    output::number(sum_first(&area, n));
+}
+
 // The sums after so many times the word.
 fn filled(w: u16, count: u64) -> Sums {
     let mut t = Sums::new();
@@ -23,8 +39,8 @@ fn filled(w: u16, count: u64) -> Sums {
     t
 }
 
-// `fill BYTE COUNT`: the fletcher value over so many times the byte.
-fn fill(question: &[u8]) {
+// `words BYTE COUNT`: the same value, from sums that are taken a word at a time.
+fn words(question: &[u8]) {
     let byte = script::number(question, 1, 16) % 256;
     let t = filled((byte * 257) as u16, script::number(question, 2, 16) / 2);
     output::number(t.second as u64 * 65536 + t.first as u64);
@@ -91,6 +107,8 @@ pub fn answered(question: &[u8]) -> bool {
         sum(question);
     } else if script::is(question, b"fill") {
         fill(question);
+    } else if script::is(question, b"words") {
+        words(question);
     } else if script::is(question, b"hex") {
         hex(question);
     } else if script::is(question, b"digits") {
