@@ -78,7 +78,14 @@ fn fletchers() -> Vec<Case> {
             }
             l.sum = Sum::Xor(0x1a2bd87b ^ 0x3044e6cc);
         }),
+        refused("header-sum-reduced-too-late", "both are taken modulo 65535", &|l| {
+            make_long(l);
+            let text = text_before_sum(l);
+            l.sum = Sum::Xor(fletcher(&text) ^ reduced_too_late(&text));
+        }),
         edited("header-odd-text", odd, &make_odd)
+            .says(open(), "chunk 3 block 5 blocks 1 version 3"),
+        edited("header-long-text", "both are taken modulo 65535", &make_long)
             .says(open(), "chunk 3 block 5 blocks 1 version 3"),
     ]
 }
@@ -87,6 +94,25 @@ fn text_before_sum(line: &LinePlan) -> Vec<u8> {
     let mut bare = line.clone();
     bare.sum = Sum::None;
     bare.text()
+}
+
+/// Gives the text before the sum more than 720 words, by names that are not known.
+fn make_long(line: &mut LinePlan) {
+    for i in 0..75 {
+        let name = [i / 26, i % 26].map(|letter| char::from(b'a' + letter));
+        line.add(&String::from_iter(name), "ffffffffffffffff");
+    }
+}
+
+/// The sum where both are reduced at the text's end only, and have passed 2^32 by then.
+fn reduced_too_late(text: &[u8]) -> u64 {
+    let (mut first, mut second) = (65535u32, 65535u32);
+    for word in text.chunks_exact(2) {
+        first = first.wrapping_add(u32::from(word[0]) * 256 + u32::from(word[1]));
+        second = second.wrapping_add(first);
+    }
+    let [first, second] = [first, second].map(|sum| u64::from((sum - 1) % 65535 + 1));
+    second * 65536 + first
 }
 
 /// Gives the text before the sum an odd length.
