@@ -1,16 +1,13 @@
 -- Laws of the sums, which proofs cite in place of the definitions.
-use Prim.Native.Nat.{ℕ, suc, _+_, _*_, _-_, _/_, _%_, _≤_, _<_}
+use Prim.Native.Nat.{ℕ, suc, _+_, _*_, _-_, _≤_, _<_}
 use mathlib.Core.Path.{_≡_, refl}
 use mathlib.Core.List.{List, [], _∷_}
-use mathlib.Core.Bool.{Bool, true, false, cond}
 use native.Mathlib.Numerals.{add-one, add-two}
 use native.Mathlib.Omega.{arith}
-use borrow.Author.Tests.{eqb-true, eqb-false}
-use lib.Dec.{eqb}
 use lib.ListN.{length, getD, drop, length-drop}
 use lib.Seq.{drop-cons}
 use Rattle.fletcher.specs.declared.Sums.{Sums}
-use Rattle.fletcher.specs.Fletcher.{reduced, addWord, sums}
+use Rattle.fletcher.specs.Fletcher.{addWord, sums}
 
 -- the word at an even place, and those after it
 pub sums-more : (t : Sums) (s : List ℕ) (i : ℕ) → i + 1 < length s
@@ -30,12 +27,3 @@ sums-short t (x ∷ (y ∷ s)) h = absurd (omega arith)
 -- at most one byte is left
 pub sums-end : (t : Sums) (s : List ℕ) (i : ℕ) → length s - i ≤ 1 → sums t (drop i s) ≡ t
 sums-end t s i h = sums-short t (drop i s) (simp length-drop h)
-
--- a sum of two reduced numbers is reduced by adding what is over 65535 to the rest
-pub reduced-fold : (x : ℕ) → 0 < x → x ≤ 131070 → reduced x ≡ x % 65536 + x / 65536
-unfolding reduced
-reduced-fold x h l = go (eqb (x % 65535) 0) refl
-  where
-    go : (t : Bool) → eqb (x % 65535) 0 ≡ t → cond t 65535 (x % 65535) ≡ x % 65536 + x / 65536
-    go true e = omega (arith, eqb-true (x % 65535) 0 e)
-    go false e = omega (arith, eqb-false (x % 65535) 0 e)

@@ -1,2 +1,4 @@
 pub mod Fletcher
 pub mod Laws
+pub mod Plain
+pub mod PlainLaws

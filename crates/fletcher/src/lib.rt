@@ -1,6 +1,12 @@
 // The Fletcher sums of a text, 16-bit words with the high byte first.
+ghost use Prim.Native.Nat.{_+_, _*_, _≤_, _<_};
 ghost use mathlib.Core.Path.{_≡_};
+ghost use lib.ListN.{length, getD, drop};
 ghost use Rattle.fletcher.specs.Fletcher.{reduced, start, addWord, sums, fletcherOf};
+ghost use Rattle.fletcher.specs.Plain.{added, bothReduced, Reduced, Fits};
+
+// Reduced sums stay below 2^32 while so many words are added; one more can take the second past it.
+const MOST_WORDS: usize = 360;
 
 // Both running sums.
 pub struct Sums {
@@ -8,16 +14,10 @@ pub struct Sums {
     pub second: u32,
 }
 
-// x modulo 65535, with 65535 for 0. A sum of two reduced numbers is small and needs no division.
+// x modulo 65535, with 65535 for 0.
 fn reduce(x: u64) -> u32
     ensures { λ r. ⌜ r ≡ reduced x ⌝ }
 {
-    if x == 0 {
-        return 65535;
-    }
-    if x <= 131070 {
-        return (x % 65536 + x / 65536) as u32;
-    }
     let m = x % 65535;
     if m == 0 { 65535 } else { m as u32 }
 }
@@ -41,6 +41,47 @@ impl Sums {
         let second = reduce(self.second as u64 + first as u64);
         Sums { first, second }
     }
+
+    // Both sums after one word more, not reduced.
+    fn plus(self, w: u16) -> Self
+        requires { ⌜ Fits (added self w) ⌝ }
+        ensures { λ r. ⌜ r ≡ added self w ⌝ }
+    {
+        let first = self.first + w as u32;
+        let second = self.second + first;
+        Sums { first, second }
+    }
+
+    // Both sums, reduced.
+    fn reduced(self) -> Self
+        ensures { λ r. ⌜ r ≡ bothReduced self ⌝ }
+    {
+        let first = reduce(self.first as u64);
+        let second = reduce(self.second as u64);
+        Sums { first, second }
+    }
+}
+
+// The word at the place `i`, high byte first.
+fn word_at(text: &[u8], i: usize) -> u16
+    requires { ⌜ i + 1 < length (now text) ⌝ }
+    ensures { λ r. ⌜ r ≡ getD (now (text .entry)) i 0 * 256 + getD (now (text .entry)) (i + 1) 0 ⌝ }
+{
+    text[i] as u16 * 256 + text[i + 1] as u16
+}
+
+// The sums `t` after so many words more, those of `text` from the place `at` on; reduced once, at the end.
+fn add_words(t: Sums, text: &[u8], at: usize, words: usize) -> Sums
+    requires { ⌜ Reduced t × (words ≤ 360) × (at + 2 * words ≤ length (now text)) ⌝ }
+    ensures { λ r. ⌜ Reduced r × (sums r (drop (at + 2 * words) (now (text .entry))) ≡ sums t (drop at (now (text .entry)))) ⌝ }
+{
+    let mut t = t;
+    let mut n = 0;
+    while n < words {
+        t = t.plus(word_at(text, at + 2 * n));
+        n += 1;
+    }
+    t.reduced()
 }
 
 // The sums of the words of `text`; an odd last byte is not counted.
@@ -49,12 +90,11 @@ pub fn sum_words(text: &[u8]) -> Sums
 {
     let mut t = Sums::new();
     let mut i = 0;
-    while 1 < text.len() - i {
-        let w = text[i] as u16 * 256 + text[i + 1] as u16;
-        t = t.word(w);
-        i += 2;
+    while 2 * MOST_WORDS <= text.len() - i {
+        t = add_words(t, text, i, MOST_WORDS);
+        i += 2 * MOST_WORDS;
     }
-    t
+    add_words(t, text, i, (text.len() - i) / 2)
 }
 
 // The value that the field `fletcher` has over `text`.

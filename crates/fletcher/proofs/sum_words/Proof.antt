@@ -1,47 +1,39 @@
 use borrow.Author.Needs.{needs}
-use Prim.Native.Nat.{_≤_, _-_, _+_}
-use mathlib.Core.Path.{_≡_, ap, sym, _∙_}
+use Prim.Native.Nat.{_≤_, _+_, _*_, _-_, _/_}
+use mathlib.Core.Path.{_≡_, refl, sym, _∙_}
 use native.Mathlib.Omega.{arith}
 use lib.ListN.{length, drop}
 use denote.Ref.{now}
-use Rattle.fletcher.specs.declared.Sums.{Sums}
 use Rattle.fletcher.specs.Fletcher.{sums, start}
-use Rattle.fletcher.specs.Laws.{sums-more, sums-end}
+use Rattle.fletcher.specs.Laws.{sums-end}
+use Rattle.fletcher.specs.Plain.{Reduced}
+use Rattle.fletcher.specs.PlainLaws.{start-reduced}
 use Rattle.fletcher.proofs.sum_words.Statement.{statement}
 use Rattle.fletcher.proofs.sum_words.Tie as tie
 
 abbrev Inv-loop : tie.InvT-loop
-Inv-loop text t₀ i₀ t i = (i ≤ length text) × (sums t (drop i text) ≡ sums start text)
+Inv-loop text t₀ i₀ t i = (i ≤ length text) × Reduced t × (sums t (drop i text) ≡ sums start text)
 
 abbrev μ-loop : tie.MeasureT-loop
 μ-loop text t₀ i₀ t i = length text - i
 
 loop-holds : tie.Need-loop-holds Inv-loop μ-loop
-loop-holds c = (search needs, ap (λ (t : Sums). sums t (now (c .before .before .args .text))) (c .new .ensures))
+loop-holds c = rw (c .new .ensures) (search needs, start-reduced, refl)
 
-cast-w : tie.Need-cast-w Inv-loop μ-loop
-cast-w c = omega (arith, c .shared-slice-known2 .given (c .before .before .loop .i))
-
-mul-w : tie.Need-mul-w Inv-loop μ-loop
-mul-w c = omega (arith, c .shared-slice-known2 .given (c .before .before .loop .i))
-
-cast-w-2 : tie.Need-cast-w-2 Inv-loop μ-loop
-cast-w-2 c = omega (arith, c .shared-slice-known3 .given (c .before .before .before .loop .i + 1))
-
-add-w-2 : tie.Need-add-w-2 Inv-loop μ-loop
-add-w-2 c =
-    let l = c .before .before .before .loop in
-    omega (arith, c .shared-slice-known3 .given (l .i + 1), c .before .shared-slice-known2 .given (l .i))
+add-words-requires : tie.Need-add-words-requires Inv-loop μ-loop
+add-words-requires c κs = (c .before .loop .inv .1, omega arith, omega arith)
 
 loop-again : tie.Need-loop-again Inv-loop μ-loop
-loop-again c =
-    let l = c .before .before .before .before .loop in
-    (omega arith, rw (c .word .ensures, ← sums-more (l .t) (now (c .before .before .before .before .before .before .before .args .text)) (l .i) (omega arith)) (l .inv .1))
+loop-again c = (omega arith, c .add-words .ensures .0, c .add-words .ensures .1 ∙ c .before .before .loop .inv .2)
+
+add-words-requires-2 : tie.Need-add-words-requires-2 Inv-loop μ-loop
+add-words-requires-2 c κs = (c .before .loop .inv .1, omega arith, omega arith)
 
 returns : tie.Need-returns Inv-loop μ-loop
 returns c =
-    let l = c .before .loop in
-    sym (sums-end (l .t) _ (l .i) (omega arith)) ∙ l .inv .1
+    let text = now (c .before .before .before .before .before .args .text) in
+    let l = c .before .before .loop in
+    sym (sums-end _ text (l .i + 2 * ((length text - l .i) / 2)) (omega arith)) ∙ (c .add-words2 .ensures .1 ∙ l .inv .2)
 
 pub sum-words-spec : {M : Type 1} → statement M
 sum-words-spec =
@@ -53,14 +45,11 @@ sum-words-spec =
     loop-holds
     (λ c. search needs)
     (λ c. search needs)
-    cast-w
-    mul-w
+    add-words-requires
     (λ c. search needs)
-    (λ c. search needs)
-    cast-w-2
-    add-w-2
-    (λ c κs. search needs)
     (λ c. search needs)
     (λ c. search needs)
     loop-again
+    (λ c. search needs)
+    add-words-requires-2
     returns)

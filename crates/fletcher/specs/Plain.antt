@@ -1,0 +1,52 @@
+-- Sums that are reduced late, after request C-15 of document 02: "reduce once per 360 words and at a text's end".
+--
+--   added t w       both running sums after one word more, not reduced
+--   plain t s       both running sums after the words of the text s, not reduced
+--   bothReduced t   both sums, reduced
+--   Reduced t       both sums are as reducing leaves them
+--   Fits t          both sums are below 2^32
+--   most k          the most that the second sum can be, k words after reduced sums
+--   Within k t      neither sum is more than k words can make of reduced sums
+use Prim.Native.Nat.{ℕ, zero, suc, _+_, _*_, _^_, _≤_, _<_}
+use mathlib.Core.List.{List, [], _∷_}
+use Rattle.fletcher.specs.declared.Sums.{Sums}
+use Rattle.fletcher.specs.Fletcher.{reduced}
+
+-- 01: "The first sum adds the words. The second adds the first sum after each word."
+unfoldable pub added : Sums → ℕ → Sums
+added t w =
+    let first = t .first + w in
+    record { first = first; second = t .second + first }
+
+-- 01: "[..] as 16-bit words, high byte first. [..] an odd last byte: it is not counted."
+unfoldable pub plain : Sums → List ℕ → Sums
+plain t [] = t
+plain t (x ∷ []) = t
+plain t (high ∷ (low ∷ s)) = plain (added t (high * 256 + low)) s
+
+-- 01: "Both [..] are taken modulo 65535, with 65535 written for 0."
+unfoldable pub bothReduced : Sums → Sums
+bothReduced t = record { first = reduced (t .first); second = reduced (t .second) }
+
+-- A number is reduced where it is 1 to 65535.
+abbrev pub InRange : ℕ → Type 0
+InRange x = (0 < x) × (x ≤ 65535)
+
+-- 02: "from reduced sums [..]"
+pub record Reduced (t : Sums) : Type 0 where
+  pub first : InRange (t .first)
+  pub second : InRange (t .second)
+
+-- 02: "[..] both stay below 2^32"
+pub record Fits (t : Sums) : Type 0 where
+  pub first : t .first < 2 ^ 32
+  pub second : t .second < 2 ^ 32
+
+-- A word is at most 65535. So k words take the first sum to 65535 * (k + 1) at most, and the second adds it after each word.
+unfoldable pub most : ℕ → ℕ
+most zero = 65535
+most (suc k) = most k + 65535 * (k + 2)
+
+pub record Within (k : ℕ) (t : Sums) : Type 0 where
+  pub first : t .first ≤ 65535 * (k + 1)
+  pub second : t .second ≤ most k

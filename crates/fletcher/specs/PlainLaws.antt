@@ -1,0 +1,104 @@
+-- That sums may be reduced late, which request C-15 of document 02 asks to be shown for any text.
+--
+--   plain-rule     reduced at its end, the sums of a text are the rule's
+--   within-360     from reduced sums both stay below 2^32 within 360 words
+--   most-reached   361 words can take the second sum past it
+use Prim.Native.Nat.{ℕ, zero, suc, _+_, _*_, _-_, _%_, _≤_, _<_}
+use mathlib.Core.Path.{_≡_, refl, subst}
+use mathlib.Core.List.{List, [], _∷_}
+use mathlib.Core.Bool.{Bool, true, false, cond}
+use native.Mathlib.Numerals.{add-one}
+use native.Mathlib.Omega.{arith}
+use borrow.Author.Tests.{eqb-true, eqb-false}
+use lib.Dec.{eqb}
+use lib.ListN.{length, getD, drop, replicate}
+use Rattle.fletcher.specs.declared.Sums.{Sums}
+use Rattle.fletcher.specs.Fletcher.{reduced, start, addWord, sums}
+use Rattle.fletcher.specs.Laws.{sums-more}
+use Rattle.fletcher.specs.Plain.{added, plain, bothReduced, InRange, Reduced, Fits, most, Within}
+
+-- ## Reducing
+
+reduced-is : (x : ℕ) → InRange (reduced x) × (reduced x % 65535 ≡ x % 65535)
+unfolding reduced
+reduced-is x = go (eqb (x % 65535) 0) refl
+  where
+    go : (t : Bool) → eqb (x % 65535) 0 ≡ t
+        → InRange (cond t 65535 (x % 65535)) × (cond t 65535 (x % 65535) % 65535 ≡ x % 65535)
+    go true e = ((omega arith, omega arith), omega (arith, eqb-true (x % 65535) 0 e))
+    go false e = ((omega (arith, eqb-false (x % 65535) 0 e), omega arith), omega arith)
+
+reduced-same : (x y : ℕ) → InRange y → x % 65535 ≡ y % 65535 → reduced x ≡ y
+reduced-same x y h e = omega (arith, reduced-is x)
+
+reduced-add : (x y : ℕ) → reduced (reduced x + y) ≡ reduced (x + y)
+reduced-add x y = reduced-same _ _ (reduced-is (x + y) .0) (omega (arith, reduced-is x .1, reduced-is (x + y) .1))
+
+reduced-sum : (x y : ℕ) → reduced (reduced x + reduced y) ≡ reduced (x + y)
+reduced-sum x y =
+    reduced-same _ _ (reduced-is (x + y) .0) (omega (arith, reduced-is x .1, reduced-is y .1, reduced-is (x + y) .1))
+
+pub both-reduced : (t : Sums) → Reduced (bothReduced t)
+unfolding bothReduced
+both-reduced t = record { first = reduced-is (t .first) .0; second = reduced-is (t .second) .0 }
+
+pub reduced-own : (t : Sums) → Reduced t → bothReduced t ≡ t
+unfolding bothReduced
+reduced-own t h = rw (reduced-same _ _ (h .first) refl, reduced-same _ _ (h .second) refl)
+
+pub start-reduced : Reduced start
+unfolding start
+start-reduced = record { first = (omega arith, omega arith); second = (omega arith, omega arith) }
+
+-- ## "for any text [..] the sums stay the rule's"
+
+pub added-rule : (t : Sums) (w : ℕ) → bothReduced (added t w) ≡ addWord (bothReduced t) w
+unfolding bothReduced added addWord
+added-rule t w = rw (reduced-add (t .first) w, reduced-sum)
+
+pub plain-rule : (t : Sums) (s : List ℕ) → bothReduced (plain t s) ≡ sums (bothReduced t) s
+unfolding plain sums
+plain-rule t [] = refl
+plain-rule t (x ∷ []) = refl
+plain-rule t (high ∷ (low ∷ s)) = rw (plain-rule (added t (high * 256 + low)) s, added-rule)
+
+-- the word at a place, and those after it
+pub added-more : (t : Sums) (s : List ℕ) (i : ℕ) → i + 1 < length s
+    → sums (bothReduced (added t (getD s i 0 * 256 + getD s (i + 1) 0))) (drop (i + 2) s) ≡ sums (bothReduced t) (drop i s)
+added-more t s i h = rw (added-rule, sums-more (bothReduced t) s i)
+
+-- ## "from reduced sums both stay below 2^32 within 360 words"
+
+pub within-start : (t : Sums) → Reduced t → Within 0 t
+unfolding most
+within-start t h = record { first = omega arith; second = omega arith }
+
+pub within-added : {k : ℕ} {t : Sums} (w : ℕ) → w ≤ 65535 → Within k t → Within (k + 1) (added t w)
+unfolding added most
+within-added w l h = record { first = omega arith; second = rw add-one (omega arith) }
+
+most-le : (k left : ℕ) → k + left ≡ 360 → most k ≤ 4282122435
+unfolding most
+most-le k zero e =
+    let last : 360 ≡ k = omega arith in
+    subst (λ (n : ℕ). most n ≤ 4282122435) last (omega arith)
+most-le k (suc left) e = omega (arith, most-le (suc k) left (omega arith))
+
+pub within-fits : {k : ℕ} {t : Sums} → k ≤ 360 → Within k t → Fits t
+within-fits {k} l h = record { first = omega arith; second = omega (arith, most-le k (360 - k) (omega arith)) }
+
+-- k words were added before the text s, and 721 bytes have 360 words
+plain-fits : (k : ℕ) (t : Sums) (s : List ℕ) → ((i : ℕ) → getD s i 0 < 256) → 2 * k + length s ≤ 721 → Within k t → Fits (plain t s)
+unfolding plain
+plain-fits k t [] bytes l h = within-fits (omega arith) h
+plain-fits k t (x ∷ []) bytes l h = within-fits (omega arith) h
+plain-fits k t (high ∷ (low ∷ s)) bytes l h =
+    plain-fits (k + 1) _ s (λ i. bytes (suc (suc i))) (omega arith) (within-added _ (omega (arith, bytes 0, bytes 1)) h)
+
+pub within-360 : (t : Sums) (s : List ℕ) → ((i : ℕ) → getD s i 0 < 256) → length s ≤ 721 → Reduced t → Fits (plain t s)
+within-360 t s bytes l h = plain-fits 0 t s bytes (omega arith) (within-start t h)
+
+-- 361 words ff ff: no more than 360 may be added before the sums are reduced
+pub most-reached : plain start (replicate 722 255) .second ≡ 4305846105
+unfolding plain start added
+most-reached = refl
