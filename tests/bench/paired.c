@@ -1,5 +1,5 @@
 /* paired FILE ENTRIES ..: the exports timed beside the plain C reader of naive.h, on stores as
- * sides.h says. Nothing depends on the figures.
+ * sides.h says; one with 0 entries is only opened. Nothing depends on the figures.
  *
  * Both sides answer the same questions in turn, the order swapped each time, and must agree. Other
  * load comes in bursts that can slow all runs of one side, so only the ratios of neighbouring runs
@@ -19,7 +19,8 @@ enum {
     PAIRS = 501,      /* at most; odd, so that there is a middle one */
     CALLS = 40,       /* timed together */
     STEPS = 200,      /* of a walk: the pairs go through 100,000 entries */
-    SCANS = 51,       /* pairs of scans */
+    SCANS = 51,       /* pairs of scans, and of openings of a long chain */
+    OPENINGS = 4,     /* of a long chain */
     SCANNED = 200000, /* entries that are scanned together, in one scan at least */
     TRACED = 1 << 20, /* pages that a task may read */
 };
@@ -33,12 +34,16 @@ struct question {
 };
 
 static const struct question questions[] = {
+    {"open", plain_open, our_open, PAIRS, CALLS, 0},
     {"open+lookup", plain_lookup, our_lookup, PAIRS, CALLS, 0},
     {"open+index", plain_index, our_index, PAIRS, CALLS, 0},
     {"a step of the walk", plain_walk, our_walk, PAIRS, STEPS, 0},
     {"examination", plain_scan, our_examination, SCANS, 0, 0},
     {"  chunks remembered", plain_scan, our_examination, SCANS, 0, 1},
 };
+
+/* Of a store whose chunks are a long chain. */
+static const struct question opened = {"open", plain_open, our_open, SCANS, OPENINGS, 0};
 
 /* Of each pair the seconds of each side, and ours over the plain reader's; sorted. */
 static double plain[PAIRS], ours[PAIRS], ratio[PAIRS];
@@ -93,18 +98,25 @@ static double page_bytes(const struct question *q, uint64_t calls, int remembere
     return (double)sum / (double)(tasks * calls);
 }
 
+static uint64_t scans(void)
+{
+    return asked.entries < SCANNED ? SCANNED / asked.entries : 1;
+}
+
 static void print_row(const struct question *q)
 {
-    uint64_t scans = asked.entries < SCANNED ? SCANNED / asked.entries : 1;
-    uint64_t calls = q->calls ? q->calls : scans;
+    uint64_t calls = q->calls ? q->calls : scans();
     double micros = 1e6 / (double)calls, nanos = 1e9 / (double)calls;
     double read = page_bytes(q, calls, 1), plain_read = page_bytes(q, calls, q->remembered);
     int low = q->pairs / 4, middle = q->pairs / 2, high = 3 * q->pairs / 4;
     time_pairs(q, calls);
-    printf("%8llu  %-19s %10.2f %10.2f  %6.3f  %.3f to %.3f  %10.0f  %7.2f %7.2f\n",
-           (unsigned long long)asked.entries, q->name, ours[middle] * micros,
-           plain[middle] * micros, ratio[middle], ratio[low], ratio[high], read,
-           ours[low] * nanos / read, plain[low] * nanos / plain_read);
+    printf("%8llu  %-19s %10.2f %10.2f  %6.3f  %.3f to %.3f", (unsigned long long)asked.entries,
+           q->name, ours[middle] * micros, plain[middle] * micros, ratio[middle], ratio[low],
+           ratio[high]);
+    if (read > 0) /* opening reads no page */
+        printf("  %10.0f  %7.2f %7.2f", read, ours[low] * nanos / read,
+               plain[low] * nanos / plain_read);
+    putchar('\n');
     fflush(stdout);
 }
 
@@ -116,7 +128,7 @@ static void take_store(const char *file, const char *entries)
     asked.bytes = (uint64_t)status.st_size;
     asked.entries = strtoull(entries, NULL, 10);
     void *mapped = mmap(NULL, asked.bytes, PROT_READ, MAP_PRIVATE, fd, 0);
-    must(mapped != MAP_FAILED && asked.entries > 0, file);
+    must(mapped != MAP_FAILED, file);
     asked.image = mapped;
 }
 
@@ -127,6 +139,10 @@ int main(int argc, char **argv)
            "  page bytes  ns/byte   plain\n");
     for (int i = 1; i < argc; i += 2) {
         take_store(argv[i], argv[i + 1]);
+        if (asked.entries == 0) {
+            print_row(&opened);
+            continue;
+        }
         for (size_t j = 0; j < sizeof questions / sizeof *questions; j++)
             print_row(&questions[j]);
     }

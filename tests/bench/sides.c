@@ -30,11 +30,38 @@ static int64_t key_of(uint64_t i)
     return 3 * (int64_t)i - (int64_t)asked.entries;
 }
 
-static uint64_t plain_root(struct store *s)
+static void plain_opened(struct store *s)
 {
     const struct rules rules = {.edition = 1, .fold = 1};
-    uint64_t root;
     must(!naive_open(s, asked.image, asked.bytes, rules), "plain open");
+}
+
+uint64_t plain_open(uint64_t task, uint64_t calls)
+{
+    uint64_t sum = task;
+    for (; calls; calls--) {
+        struct store s;
+        plain_opened(&s);
+        sum += s.newest.id + s.newest.block + s.newest.len + s.newest.version;
+    }
+    return sum;
+}
+
+uint64_t our_open(uint64_t task, uint64_t calls)
+{
+    uint64_t sum = task;
+    for (; calls; calls--) {
+        mvstore_chunk c = mvstore_newest(asked.image, asked.bytes);
+        must(!c.refusal, "open");
+        sum += c.chunk + c.block + c.blocks + c.version;
+    }
+    return sum;
+}
+
+static uint64_t plain_root(struct store *s)
+{
+    uint64_t root;
+    plain_opened(s);
     must(!naive_root(s, MAP, &root), "plain root");
     return root;
 }

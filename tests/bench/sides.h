@@ -17,6 +17,8 @@ extern struct asked asked;
  * side's. An answer that is wrong by itself ends the program. */
 typedef uint64_t side(uint64_t task, uint64_t calls);
 
+/* The newest chunk. */
+side plain_open, our_open;
 side plain_lookup, our_lookup;
 side plain_index, our_index;
 /* Tasks in turn; the plain reader has no walk and is asked for the same entries by index. */
