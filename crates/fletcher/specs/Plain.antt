@@ -3,7 +3,8 @@
 --   added t w       both running sums after one word more, not reduced
 --   plain t s       both running sums after the words of the text s, not reduced
 --   bothReduced t   both sums, reduced
---   Reduced t       both sums are as reducing leaves them
+--   InRange x       x is 1 to 65535, as reducing leaves a sum
+--   Reduced t       both sums are in that range
 --   Fits t          both sums are below 2^32
 --   most k          the most that the second sum can be, k words after reduced sums
 --   Within k t      neither sum is more than k words can make of reduced sums
@@ -28,7 +29,7 @@ plain t (high ∷ (low ∷ s)) = plain (added t (high * 256 + low)) s
 unfoldable pub bothReduced : Sums → Sums
 bothReduced t = record { first = reduced (t .first); second = reduced (t .second) }
 
--- A number is reduced where it is 1 to 65535.
+-- 01: "modulo 65535, with 65535 written for 0", so 1 to 65535.
 abbrev pub InRange : ℕ → Type 0
 InRange x = (0 < x) × (x ≤ 65535)
 

@@ -19,9 +19,10 @@ use Rattle.fletcher.specs.Plain.{added, plain, bothReduced, InRange, Red
 
 -- ## Reducing
 
-reduced-is : (x : ℕ) → InRange (reduced x) × (reduced x % 65535 ≡ x % 65535)
+-- what reducing leaves is 1 to 65535, and the same modulo 65535
+reduced-range : (x : ℕ) → InRange (reduced x) × (reduced x % 65535 ≡ x % 65535)
 unfolding reduced
-reduced-is x = go (eqb (x % 65535) 0) refl
+reduced-range x = go (eqb (x % 65535) 0) refl
   where
     go : (t : Bool) → eqb (x % 65535) 0 ≡ t
         → InRange (cond t 65535 (x % 65535)) × (cond t 65535 (x % 65535) % 65535 ≡ x % 65535)
@@ -29,22 +30,22 @@ reduced-is x = go (eqb (x % 65535) 0) refl
     go false e = ((omega (arith, eqb-false (x % 65535) 0 e), omega arith), omega arith)
 
 reduced-same : (x y : ℕ) → InRange y → x % 65535 ≡ y % 65535 → reduced x ≡ y
-reduced-same x y h e = omega (arith, reduced-is x)
+reduced-same x y h e = omega (arith, reduced-range x)
 
 reduced-add : (x y : ℕ) → reduced (reduced x + y) ≡ reduced (x + y)
-reduced-add x y = reduced-same _ _ (reduced-is (x + y) .0) (omega (arith, reduced-is x .1, reduced-is (x + y) .1))
+reduced-add x y = reduced-same _ _ (reduced-range (x + y) .0) (omega (arith, reduced-range x .1, reduced-range (x + y) .1))
 
 reduced-sum : (x y : ℕ) → reduced (reduced x + reduced y) ≡ reduced (x + y)
 reduced-sum x y =
-    reduced-same _ _ (reduced-is (x + y) .0) (omega (arith, reduced-is x .1, reduced-is y .1, reduced-is (x + y) .1))
+    reduced-same _ _ (reduced-range (x + y) .0) (omega (arith, reduced-range x .1, reduced-range y .1, reduced-range (x + y) .1))
 
 pub both-reduced : (t : Sums) → Reduced (bothReduced t)
 unfolding bothReduced
-both-reduced t = record { first = reduced-is (t .first) .0; second = reduced-is (t .second) .0 }
+both-reduced t = record { first = reduced-range (t .first) .0; second = reduced-range (t .second) .0 }
 
-pub reduced-own : (t : Sums) → Reduced t → bothReduced t ≡ t
+pub reduced-stays : (t : Sums) → Reduced t → bothReduced t ≡ t
 unfolding bothReduced
-reduced-own t h = rw (reduced-same _ _ (h .first) refl, reduced-same _ _ (h .second) refl)
+reduced-stays t h = rw (reduced-same _ _ (h .first) refl, reduced-same _ _ (h .second) refl)
 
 pub start-reduced : Reduced start
 unfolding start
@@ -87,7 +88,7 @@ most-le k (suc left) e = omega (arith, most-le (suc k) left (omega arith))
 pub within-fits : {k : ℕ} {t : Sums} → k ≤ 360 → Within k t → Fits t
 within-fits {k} l h = record { first = omega arith; second = omega (arith, most-le k (360 - k) (omega arith)) }
 
--- k words were added before the text s, and 721 bytes have 360 words
+-- k words were added before the text s; 721 bytes have 360 words
 plain-fits : (k : ℕ) (t : Sums) (s : List ℕ) → ((i : ℕ) → getD s i 0 < 256) → 2 * k + length s ≤ 721 → Within k t → Fits (plain t s)
 unfolding plain
 plain-fits k t [] bytes l h = within-fits (omega arith) h
@@ -95,10 +96,11 @@ plain-fits k t (x ∷ []) bytes l h = within-fits (omega arith) h
 plain-fits k t (high ∷ (low ∷ s)) bytes l h =
     plain-fits (k + 1) _ s (λ i. bytes (suc (suc i))) (omega arith) (within-added _ (omega (arith, bytes 0, bytes 1)) h)
 
+-- of any bytes, at most 360 words
 pub within-360 : (t : Sums) (s : List ℕ) → ((i : ℕ) → getD s i 0 < 256) → length s ≤ 721 → Reduced t → Fits (plain t s)
 within-360 t s bytes l h = plain-fits 0 t s bytes (omega arith) (within-start t h)
 
--- 361 words ff ff: no more than 360 may be added before the sums are reduced
+-- 361 words ff ff take the second sum past 2^32, which is 4294967296: so 360 is the most that may be added before it is reduced
 pub most-reached : plain start (replicate 722 255) .second ≡ 4305846105
 unfolding plain start added
 most-reached = refl

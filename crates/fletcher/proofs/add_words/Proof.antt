@@ -6,7 +6,7 @@ use native.Mathlib.Omega.{arith}
 use lib.ListN.{drop}
 use Rattle.fletcher.specs.Fletcher.{sums}
 use Rattle.fletcher.specs.Plain.{bothReduced, Within}
-use Rattle.fletcher.specs.PlainLaws.{both-reduced, reduced-own, added-more, within-start, within-added, within-fits}
+use Rattle.fletcher.specs.PlainLaws.{both-reduced, reduced-stays, added-more, within-start, within-added, within-fits}
 use Rattle.fletcher.proofs.add_words.Statement.{statement}
 use Rattle.fletcher.proofs.add_words.Tie as tie
 
@@ -19,7 +19,7 @@ abbrev μ-loop : tie.MeasureT-loop
 loop-holds : tie.Need-loop-holds Inv-loop μ-loop
 loop-holds c =
     let reduced = c .before .pre .0 in
-    (search needs, within-start _ reduced, rw (add-zero, reduced-own _ reduced))
+    (search needs, within-start _ reduced, rw (add-zero, reduced-stays _ reduced))
 
 plus-requires : tie.Need-plus-requires Inv-loop μ-loop
 plus-requires c κs = within-fits (omega arith) (within-added (c .word-at .result) (search needs) (c .before .before .loop .inv .1))
