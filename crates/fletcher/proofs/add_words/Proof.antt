@@ -1,11 +1,11 @@
 use borrow.Author.Needs.{needs}
 use Prim.Native.Nat.{_≤_, _+_, _*_, _-_}
-use mathlib.Core.Path.{_≡_, _∙_}
+use mathlib.Core.Path.{_≡_, sym, subst, _∙_}
 use native.Mathlib.Nat.{add-zero}
 use native.Mathlib.Omega.{arith}
 use lib.ListN.{drop}
 use Rattle.fletcher.specs.Fletcher.{sums}
-use Rattle.fletcher.specs.Plain.{bothReduced, Within}
+use Rattle.fletcher.specs.Plain.{bothReduced, Reduced, Within}
 use Rattle.fletcher.specs.PlainLaws.{both-reduced, reduced-stays, added-more, within-start, within-added, within-fits}
 use Rattle.fletcher.proofs.add_words.Statement.{statement}
 use Rattle.fletcher.proofs.add_words.Tie as tie
@@ -39,7 +39,7 @@ returns : tie.Need-returns Inv-loop μ-loop
 returns c =
     let l = c .before .before .loop in
     let all : c .before .before .before .before .args .words ≡ l .n = omega arith in
-    rw (c .reduced .ensures, all) (both-reduced (l .t), l .inv .2)
+    (subst Reduced (sym (c .reduced .ensures)) (both-reduced (l .t)), rw (c .reduced .ensures, all) (l .inv .2))
 
 pub add-words-spec : {M : Type 1} → statement M
 add-words-spec =
