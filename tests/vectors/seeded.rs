@@ -18,7 +18,7 @@ pub fn questions() -> Vec<String> {
         out.push(variable(&mut random));
         out.push(format!("key 1 0 {}", bytes_word(&key(&mut random))));
     }
-    // More words than are added before the sums are reduced, and an odd last byte.
+    // 360 words, which are added before the sums are reduced, and 721; each with an odd last byte.
     for length in [721, 1443] {
         out.push(format!("sum {}", bytes_word(&bytes(&mut random, length))));
     }
