@@ -19,21 +19,22 @@ use Rattle.key.specs.Key.{Key, keyOf, wellFormed, compareKeys}
 use Rattle.tree.specs.Asking.{mapEntries}
 use Rattle.tree.specs.Sound.{Sound}
 use Rattle.tree.specs.Examination.{Report}
-use Rattle.chunk.specs.declared.Chunk.{Chunk}
+use Rattle.opening.specs.declared.Store.{Store}
 use Rattle.content.specs.Content.{Entry, keyIn}
 use Rattle.store.specs.Store.{reader, mapRoot}
-use Rattle.map.specs.Map.{askedMap, openedStore, lookupOf, indexOf, countOf}
+use Rattle.viewing.specs.Viewing.{openedStore}
+use Rattle.map.specs.Map.{askedMap, lookupOf, indexOf, countOf}
 use Rattle.examine.specs.Examine.{examineOf}
 
 -- "A map, in an image that opens, is an id and a kind not refused with 1 whose root is found without refusal."
 pub record Map (image : List ℕ) (map kind : ℕ) : Type 0 where
-  pub newest : Chunk
-  pub opens : openedStore image ≡ ok newest
+  pub store : Store
+  pub opens : openedStore image ≡ ok store
   pub id : ℕ
   pub keys : Kind
   pub asked : askedMap map kind ≡ ok (id, keys)
   pub root : ℕ
-  pub found : mapRoot image newest id ≡ ok root
+  pub found : mapRoot image store id ≡ ok root
 
 -- "The examination passes a map if it doesn't refuse."
 abbrev pub Passes : List ℕ → ℕ → ℕ → Type 0
@@ -41,11 +42,11 @@ Passes image map kind = (r : Report) × (examineOf image map kind ≡ ok r)
 
 module _ {image : List ℕ} {map kind : ℕ} (m : Map image map kind) where
   abbrev pub entryList : List (Key × Entry)
-  entryList = mapEntries (reader image (m .newest) (m .id) (m .keys)) (m .root)
+  entryList = mapEntries (reader image (m .store) (m .id) (m .keys)) (m .root)
 
   -- "Sound: all reached pages meet the page rules; leaf keys rise strictly from left to right; [..]"
   abbrev pub SoundMap : Type 0
-  SoundMap = Sound compareKeys (reader image (m .newest) (m .id) (m .keys)) (m .root)
+  SoundMap = Sound compareKeys (reader image (m .store) (m .id) (m .keys)) (m .root)
 
   pub record Answers : Type 0 where
     -- "looking up any well-formed key never refuses,"

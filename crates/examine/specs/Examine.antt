@@ -7,4 +7,4 @@ use Rattle.store.specs.Examining.{examineIn}
 use Rattle.map.specs.Map.{askedMap, asking}
 
 unfoldable pub examineOf : List ℕ → ℕ → ℕ → Outcome Report
-examineOf image map kind = asking (askedMap map kind) image (λ c id k. examineIn image c id k)
+examineOf image map kind = asking (askedMap map kind) image (λ s id k. examineIn image s id k)

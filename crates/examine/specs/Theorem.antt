@@ -16,7 +16,7 @@ use Rattle.tree.specs.ListLaws.{all-member}
 use Rattle.tree.specs.Examination.{mapExamine}
 use Rattle.tree.specs.Demand3.{Passes as PassesTree}
 use Rattle.tree.specs.Theorem.{examined, passed-answers, passed-entries}
-use Rattle.chunk.specs.declared.Chunk.{Chunk}
+use Rattle.opening.specs.declared.Store.{Store}
 use Rattle.content.specs.Content.{Entry}
 use Rattle.store.specs.Store.{reader}
 use Rattle.store.specs.Asking.{inMap, lookupIn, indexIn, countIn}
@@ -28,15 +28,15 @@ use Rattle.examine.specs.Demand3.{Map, SoundMap, Passes, Answers}
 
 module _ {image : List ℕ} {map kind : ℕ} (m : Map image map kind) where
   abbrev read : ℕ → Outcome (Page Key Entry)
-  read = reader image (m .newest) (m .id) (m .keys)
+  read = reader image (m .store) (m .id) (m .keys)
 
   -- ## A call is what the tree says of the map's root
-  asking-map : {A : Type 0} (ask : Chunk → ℕ → Kind → Outcome A)
-      → asking (askedMap map kind) image ask ≡ ask (m .newest) (m .id) (m .keys)
+  asking-map : {A : Type 0} (ask : Store → ℕ → Kind → Outcome A)
+      → asking (askedMap map kind) image ask ≡ ask (m .store) (m .id) (m .keys)
   unfolding asking
   asking-map ask = rw (m .asked, m .opens)
 
-  in-map : {A : Type 0} (ask : ℕ → Outcome A) → inMap image (m .newest) (m .id) ask ≡ ask (m .root)
+  in-map : {A : Type 0} (ask : ℕ → Outcome A) → inMap image (m .store) (m .id) ask ≡ ask (m .root)
   in-map ask = rw (m .found)
 
   lookup-map : (key : List ℕ) → wellFormed (m .keys) key ≡ true
@@ -46,15 +46,15 @@ module _ {image : List ℕ} {map kind : ℕ} (m : Map image map kind) where
 
   index-map : (i : ℕ) → indexOf image map kind i ≡ mapIndex read i (m .root)
   unfolding indexOf indexIn
-  index-map i = asking-map (λ c id k. indexIn image c id k i) ∙ in-map (mapIndex read i)
+  index-map i = asking-map (λ s id k. indexIn image s id k i) ∙ in-map (mapIndex read i)
 
   count-map : countOf image map kind ≡ mapCount read (m .root)
   unfolding countOf countIn
-  count-map = asking-map (λ c id k. countIn image c id k) ∙ in-map (mapCount read)
+  count-map = asking-map (λ s id k. countIn image s id k) ∙ in-map (mapCount read)
 
   examine-map : examineOf image map kind ≡ mapExamine compareKeys read (m .root)
   unfolding examineOf examineIn
-  examine-map = asking-map (λ c id k. examineIn image c id k) ∙ in-map (mapExamine compareKeys read)
+  examine-map = asking-map (λ s id k. examineIn image s id k) ∙ in-map (mapExamine compareKeys read)
 
   passes-map : Passes image map kind → PassesTree compareKeys read (m .root)
   passes-map p = (p .0, sym examine-map ∙ p .1)
@@ -77,7 +77,7 @@ module _ {image : List ℕ} {map kind : ℕ} (m : Map image map kind) where
         beyond = λ i h. index-map i ∙ a .beyond i h;
         number = count-map ∙ a .number;
         report = λ r e. passed-entries key-order read (m .root) r (sym examine-map ∙ e);
-        keys-there = λ k e i. all-member _ i (entries-key image (m .newest) (m .id) (m .keys) (m .root));
+        keys-there = λ k e i. all-member _ i (entries-key image (m .store) (m .id) (m .keys) (m .root));
       }
 
   pub demand3 : (Passes image map kind ↔ SoundMap m) × (Passes image map kind → Answers m)

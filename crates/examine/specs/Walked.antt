@@ -5,15 +5,9 @@ use mathlib.Core.Path.{_≡_, refl, sym, _∙_, ap}
 use mathlib.Core.Bool.{true≢false}
 use mathlib.Core.List.{List, [], _∷_}
 use native.Mathlib.Omega.{arith}
-use Rattle.refusal.specs.Refusal.{ok}
 use Rattle.key.specs.Key.{Key}
 use Rattle.tree.specs.Page.{All}
-use Rattle.tree.specs.OutcomeLaws.{refuse-ok}
 use Rattle.tree.specs.Walk.{Moved, yield, over, stop}
-use Rattle.chunk.specs.declared.Chunk.{Chunk}
-use Rattle.opening.specs.declared.Opened.{Opened}
-use Rattle.opening.specs.declared.Opened.the-variants as opened
-use Rattle.opening.specs.Opening.{opened}
 use Rattle.content.specs.Content.{Entry, keyIn}
 use Rattle.cursor.specs.declared.Walk.{Walk}
 use Rattle.cursor.specs.declared.Yield.the-variants as yields
@@ -22,19 +16,12 @@ use Rattle.cursor.specs.Walk.{fresh, closed, doneNumber, yieldOf, settled}
 use Rattle.store.specs.AskLaws.{entries-key}
 use Rattle.store.specs.Walk.{stepIn, Walks}
 use Rattle.store.specs.WalkedLaws.{sound-walks}
-use Rattle.map.specs.Map.{openedBy, openedStore}
 use Rattle.walk.specs.declared.Next.the-variants as next
 use Rattle.walk.specs.Stepping.{stepOf, WalksOf}
 use Rattle.walk.specs.Given.{nextBy, stepBy}
 use Rattle.walk.specs.WalkLaws.{after-open, step-asked, step-done}
 use Rattle.examine.specs.Demand3.{Map, entryList, Passes}
 use Rattle.examine.specs.Theorem.{passes-sound}
-
-opened-newest : (o : Opened) {c : Chunk} → openedBy o ≡ ok c → o ≡ opened.Newest c
-opened-newest (opened.Newest d) {c} e =
-    let same : d ≡ c = cc in
-    ap opened.Newest same
-opened-newest (opened.Refused r) {c} e = refuse-ok r c e
 
 -- a state that a step yields from is going on
 going-on : (w v : Walk) (e : Key × Entry) (m : Moved (Key × Entry)) → settled w m ≡ record { walk = v; got = yieldOf e } → v .last ≡ 0
@@ -49,15 +36,14 @@ going-on w v e (stop r) h =
 
 module _ {image : List ℕ} {map kind : ℕ} (m : Map image map kind) where
   -- the call is the step in the open store, with the key read at its place
-  step-map : (w : Walk) → w .last ≡ 0 → {s : Stepped} → stepIn image (m .newest) (m .id) (m .keys) w ≡ s
+  step-map : (w : Walk) → w .last ≡ 0 → {s : Stepped} → stepIn image (m .store) (m .id) (m .keys) w ≡ s
       → stepOf image map kind w ≡ stepBy image (m .keys) s
-  unfolding openedStore
   step-map w going e =
-      sym (after-open image (m .id) (m .keys) w (opened-newest (opened image) (m .opens)) (sym e)
+      sym (after-open image (m .id) (m .keys) w (m .opens) (sym e)
       ∙ step-asked image map kind w (λ d. absurd (omega (arith, going, d))) (rw going) (m .asked))
 
   walks-map : (w : Walk) → w .last ≡ 0 → (es : List (Key × Entry)) → All (λ x. x .0 ≡ keyIn image (m .keys) (x .1 .key)) es
-      → Walks image (m .newest) (m .id) (m .keys) w es → WalksOf image map kind w es
+      → Walks image (m .store) (m .id) (m .keys) w es → WalksOf image map kind w es
   unfolding stepBy nextBy stepIn
   walks-map w going [] keys s =
       (step-map w going s, sym (step-done image map kind (closed w doneNumber) refl))
@@ -67,5 +53,5 @@ module _ {image : List ℕ} {map kind : ℕ} (m : Map image map kind) where
   pub passed-walks : Passes image map kind → WalksOf image map kind fresh (entryList m)
   unfolding fresh
   passed-walks p =
-      walks-map fresh refl (entryList m) (entries-key image (m .newest) (m .id) (m .keys) (m .root))
-      (sound-walks image (m .newest) (m .id) (m .keys) (m .root) (m .found) (passes-sound m .0 p))
+      walks-map fresh refl (entryList m) (entries-key image (m .store) (m .id) (m .keys) (m .root))
+      (sound-walks image (m .store) (m .id) (m .keys) (m .root) (m .found) (passes-sound m .0 p))

@@ -2,8 +2,8 @@
 // passes answers every lookup, every index and the count as its entry list says.
 use key::Kind;
 use map::Target;
-use opening::Opened;
 use soundness::Examined;
+use viewing::Viewed;
 ghost use mathlib.Core.Path.{_≡_};
 ghost use Rattle.refusal.specs.Refusal.{ok};
 ghost use Rattle.soundness.specs.Examining.{examinedOf};
@@ -13,12 +13,12 @@ ghost use Rattle.examine.specs.Examine.{examineOf};
 
 // The examination of a map that may be asked for.
 fn examine_in(image: &[u8], id: u32, kind: Kind) -> Examined
-    ensures { λ r. ⌜ r ≡ examinedOf (asking (ok (id, kind)) (now (image .entry)) (λ c i k. examineIn (now (image .entry)) c i k)) ⌝ }
+    ensures { λ r. ⌜ r ≡ examinedOf (asking (ok (id, kind)) (now (image .entry)) (λ s i k. examineIn (now (image .entry)) s i k)) ⌝ }
 {
-    let o = opening::open(image);
+    let o = viewing::open(image);
     match o {
-        Opened::Refused(r) => Examined::Refused(r),
-        Opened::Newest(c) => store::examine(image, c, id, kind),
+        Viewed::Refused(r) => Examined::Refused(r),
+        Viewed::Is(s) => store::examine(image, s, id, kind),
     }
 }
 

@@ -1,14 +1,14 @@
 // The listing: reads an image from standard input, examines map `forces`, kind 0, and lists it in
 // decimal; or prints only `refused N`. The image is opened once and walked once.
-use chunk::Chunk;
 use cursor::Walk;
 use cursor::Yield;
 use key::Kind;
 use metadata::Id;
-use opening::Opened;
+use opening::Store;
 use refusal::Refusal;
 use soundness::Examined;
 use soundness::Report;
+use viewing::Viewed;
 
 // Input over this many bytes is refused.
 const MOST_BYTES: usize = 65536;
@@ -44,12 +44,12 @@ fn print_entry(image: &[u8], key: usize, len: usize) {
 }
 
 // As many steps of the walk as the examination counted entries.
-fn list_entries(image: &[u8], newest: Chunk, id: u32, entries: u64) {
+fn list_entries(image: &[u8], s: Store, id: u32, entries: u64) {
     let mut left = entries;
     let mut w = Walk::fresh();
     while 0 < left {
-        let s = store::advance(image, newest, id, Kind::Number, w);
-        let y = s.got;
+        let step = store::advance(image, s, id, Kind::Number, w);
+        let y = step.got;
         let Yield::Entry {
             key,
             size: _,
@@ -60,12 +60,13 @@ fn list_entries(image: &[u8], newest: Chunk, id: u32, entries: u64) {
             return;
         };
         print_entry(image, key, len);
-        w = s.walk;
+        w = step.walk;
         left -= 1;
     }
 }
 
-fn list_map(image: &[u8], c: Chunk, id: u32, r: Report) {
+fn list_map(image: &[u8], s: Store, id: u32, r: Report) {
+    let c = s.newest;
     named(b"chunk ", c.id as u64);
     named(b" block ", c.block as u64);
     named(b" version ", c.version);
@@ -74,15 +75,15 @@ fn list_map(image: &[u8], c: Chunk, id: u32, r: Report) {
     named(b" pages ", r.pages);
     named(b" depth ", r.depth as u64);
     io::write_all(1, b"\n");
-    list_entries(image, c, id, r.entries);
+    list_entries(image, s, id, r.entries);
 }
 
 // The map with an id, if the examination passes it.
-fn examined(image: &[u8], c: Chunk, id: u32) {
-    let e = store::examine(image, c, id, Kind::Number);
+fn examined(image: &[u8], s: Store, id: u32) {
+    let e = store::examine(image, s, id, Kind::Number);
     match e {
         Examined::Passed(r) => {
-            list_map(image, c, id, r);
+            list_map(image, s, id, r);
         }
         Examined::Refused(r) => {
             refused(r.number);
@@ -91,11 +92,11 @@ fn examined(image: &[u8], c: Chunk, id: u32) {
 }
 
 // The map `forces` of a store that is open.
-fn forces(image: &[u8], c: Chunk) {
-    let i = store::map_id(image, c, b"forces");
+fn forces(image: &[u8], s: Store) {
+    let i = store::map_id(image, s, b"forces");
     match i {
         Id::Is(id) => {
-            examined(image, c, id);
+            examined(image, s, id);
         }
         Id::Refused(r) => {
             refused(r.number);
@@ -104,12 +105,12 @@ fn forces(image: &[u8], c: Chunk) {
 }
 
 fn listing(image: &[u8]) {
-    let o = opening::open(image);
+    let o = viewing::open(image);
     match o {
-        Opened::Newest(c) => {
-            forces(image, c);
+        Viewed::Is(s) => {
+            forces(image, s);
         }
-        Opened::Refused(r) => {
+        Viewed::Refused(r) => {
             refused(r.number);
         }
     }

@@ -1,17 +1,17 @@
 // The questions about an image.
 use super::output;
-use chunk::Chunk;
 use key::Kind;
 use metadata::Located;
-use opening::Opened;
+use opening::Store;
 use position::Position;
 use refusal::Refusal;
+use viewing::Viewed;
 
 // `map HEX`.
-fn map(line: &[u8], image: &[u8], newest: Chunk) {
+fn map(line: &[u8], image: &[u8], s: Store) {
     let mut name = [0u8; 1024];
     let n = script::bytes(line, 1, &mut name);
-    output::id(store::map_id(image, newest, &name[..n]));
+    output::id(store::map_id(image, s, &name[..n]));
 }
 
 fn kind(line: &[u8]) -> Kind {
@@ -23,7 +23,7 @@ fn kind(line: &[u8]) -> Kind {
 }
 
 // `page POSITION ID KIND`; position 0 is out of place.
-fn page(line: &[u8], image: &[u8], newest: Chunk) {
+fn page(line: &[u8], image: &[u8], s: Store) {
     let position = Position {
         bits: script::number(line, 1, 10),
     };
@@ -31,7 +31,7 @@ fn page(line: &[u8], image: &[u8], newest: Chunk) {
         output::refused(Refusal::new(Refusal::PLACE));
         return;
     }
-    match store::chunk_place(image, newest, position.chunk()) {
+    match store::chunk_place(image, s, position.chunk()) {
         Located::At(place) => {
             let map = script::number32(line, 2, 10);
             output::judged(page::judge(image, place, position, map, kind(line)));
@@ -40,25 +40,25 @@ fn page(line: &[u8], image: &[u8], newest: Chunk) {
     }
 }
 
-fn question(line: &[u8], image: &[u8], newest: Chunk) {
+fn question(line: &[u8], image: &[u8], s: Store) {
     if script::is(line, b"open") {
-        output::newest(newest);
+        output::newest(s.newest);
         return;
     }
     if script::is(line, b"map") {
-        map(line, image, newest);
+        map(line, image, s);
         return;
     }
     if script::is(line, b"root") {
-        output::root(store::map_root(image, newest, script::number32(line, 1, 10)));
+        output::root(store::map_root(image, s, script::number32(line, 1, 10)));
         return;
     }
     if script::is(line, b"chunk") {
-        output::located(store::chunk_place(image, newest, script::number32(line, 1, 10)));
+        output::located(store::chunk_place(image, s, script::number32(line, 1, 10)));
         return;
     }
     if script::is(line, b"page") {
-        page(line, image, newest);
+        page(line, image, s);
         return;
     }
     output::unknown();
@@ -66,8 +66,8 @@ fn question(line: &[u8], image: &[u8], newest: Chunk) {
 
 // The line that answers a question, in an image that is opened for it.
 pub fn answer(line: &[u8], image: &[u8]) {
-    match opening::open(image) {
-        Opened::Newest(newest) => question(line, image, newest),
-        Opened::Refused(r) => output::refused(r),
+    match viewing::open(image) {
+        Viewed::Is(s) => question(line, image, s),
+        Viewed::Refused(r) => output::refused(r),
     }
 }

@@ -3,7 +3,6 @@
 --
 --   askedMap map kind          a map by its id and kind, as a caller gives them: "1: kind not 0 or 1; map 0 with kind 0; map id above 2^31-1"
 --   askedKey map kind key      the same with a key: "key badly formed"
---   openedStore image          the newest chunk, or why the image does not open
 --   lookupOf, indexOf, countOf, copyOf, namedOf    the calls
 --   itemOf                     an entry as index gives it; itemAt, itemBy: by the places of its key and value
 --   areaAfter image o area     what the lent area holds after a copy with the outcome o
@@ -19,16 +18,14 @@ use Rattle.key.specs.declared.Kind.{Kind}
 use Rattle.key.specs.declared.Kind.the-variants.{Number, Text}
 use Rattle.key.specs.Key.{Key, number, text, keyOf, wellFormed}
 use Rattle.tree.specs.Page.{branch}
-use Rattle.chunk.specs.declared.Chunk.{Chunk}
-use Rattle.opening.specs.declared.Opened.{Opened}
-use Rattle.opening.specs.declared.Opened.the-variants as opened
-use Rattle.opening.specs.Opening.{opened}
+use Rattle.opening.specs.declared.Store.{Store}
 use Rattle.content.specs.Content.{Entry, keyIn}
 use Rattle.store.specs.declared.Fetched.{Fetched}
 use Rattle.store.specs.declared.Fetched.the-variants as fetched
 use Rattle.metadata.specs.Answers.{valueBytes}
 use Rattle.store.specs.Store.{mapId}
 use Rattle.store.specs.Asking.{lookupIn, indexIn, countIn}
+use Rattle.viewing.specs.Viewing.{openedStore}
 use Rattle.map.specs.declared.Target.{Target}
 use Rattle.map.specs.declared.Target.the-variants as target
 use Rattle.map.specs.declared.entry.Item.{Item}
@@ -57,19 +54,11 @@ keyed key m = branch (wellFormed (m .1) key) (ok m) (refuse badArgument)
 unfoldable pub wellNamed : List ℕ → Bool
 wellNamed name = within 1 1000 (length name) && every isPrintable name
 
--- ## Opening
-abbrev pub openedBy : Opened → Outcome Chunk
-openedBy (opened.Newest c) = ok c
-openedBy (opened.Refused r) = refuse r
-
-unfoldable pub openedStore : List ℕ → Outcome Chunk
-openedStore image = openedBy (opened image)
-
--- arguments, then opening, then the map
-unfoldable pub asking : {A : Type 0} → Outcome (ℕ × Kind) → List ℕ → (Chunk → ℕ → Kind → Outcome A) → Outcome A
-asking m image ask = bind m (λ x. bind (openedStore image) (λ c. ask c (x .0) (x .1)))
-
 -- ## The calls
+-- arguments, then opening, then the map
+unfoldable pub asking : {A : Type 0} → Outcome (ℕ × Kind) → List ℕ → (Store → ℕ → Kind → Outcome A) → Outcome A
+asking m image ask = bind m (λ x. bind (openedStore image) (λ s. ask s (x .0) (x .1)))
+
 -- "copy area smaller than the value"
 abbrev pub fitting : ℕ → Option Entry → Outcome (Option Entry)
 fitting room none = ok none
@@ -77,13 +66,13 @@ fitting room (some e) = branch (leb (e .value .len) room) (ok (some e)) (refuse 
 
 module _ (image : List ℕ) (map kind : ℕ) where
   unfoldable pub lookupOf : List ℕ → Outcome (Option Entry)
-  lookupOf key = asking (bind (askedMap map kind) (keyed key)) image (λ c id k. lookupIn image c id k (keyOf k key))
+  lookupOf key = asking (bind (askedMap map kind) (keyed key)) image (λ s id k. lookupIn image s id k (keyOf k key))
 
   unfoldable pub indexOf : ℕ → Outcome (Key × Entry)
-  indexOf i = asking (askedMap map kind) image (λ c id k. indexIn image c id k i)
+  indexOf i = asking (askedMap map kind) image (λ s id k. indexIn image s id k i)
 
   unfoldable pub countOf : Outcome ℕ
-  countOf = asking (askedMap map kind) image (λ c id k. countIn image c id k)
+  countOf = asking (askedMap map kind) image (λ s id k. countIn image s id k)
 
   -- "Copy is a lookup that also writes the value."
   unfoldable pub copyOf : List ℕ → ℕ → Outcome (Option Entry)
@@ -91,7 +80,7 @@ module _ (image : List ℕ) (map kind : ℕ) where
 
 -- "One call finds a map's id by name"
 unfoldable pub namedOf : List ℕ → List ℕ → Outcome ℕ
-namedOf image name = branch (wellNamed name) (bind (openedStore image) (λ c. mapId image c name)) (refuse badArgument)
+namedOf image name = branch (wellNamed name) (bind (openedStore image) (λ s. mapId image s name)) (refuse badArgument)
 
 -- ## What the code hands back
 abbrev pub askedSaid : Target → Outcome (ℕ × Kind)

@@ -25,10 +25,7 @@ use Rattle.text.specs.Text.{within, every, isPrintable}
 use Rattle.key.specs.declared.Kind.{Kind}
 use Rattle.key.specs.declared.Kind.the-variants.{Number, Text}
 use Rattle.key.specs.Key.{Key, keyOf, wellFormed}
-use Rattle.chunk.specs.declared.Chunk.{Chunk}
-use Rattle.opening.specs.declared.Opened.{Opened}
-use Rattle.opening.specs.declared.Opened.the-variants as opened
-use Rattle.opening.specs.Opening.{opened}
+use Rattle.opening.specs.declared.Store.{Store}
 use Rattle.item.specs.Item.{Spot}
 use Rattle.content.specs.Content.{Entry, keyIn}
 use Rattle.metadata.specs.declared.Value.{Value}
@@ -36,10 +33,11 @@ use Rattle.metadata.specs.declared.Value.the-variants as value
 use Rattle.store.specs.Store.{namedMap}
 use Rattle.store.specs.Asking.{lookupIn, indexIn, valueOf, fetchedOf}
 use Rattle.store.specs.AskLaws.{lookup-inside, index-key}
+use Rattle.viewing.specs.Viewing.{openedStore}
 use Rattle.map.specs.declared.Target.{Target}
 use Rattle.map.specs.declared.Target.the-variants as target
 use Rattle.map.specs.declared.entry.Item.the-variants as item
-use Rattle.map.specs.Map.{askedMap, keyed, wellNamed, openedBy, openedStore, asking, lookupOf, fitting, copyOf, namedOf}
+use Rattle.map.specs.Map.{askedMap, keyed, wellNamed, asking, lookupOf, fitting, copyOf, namedOf}
 use Rattle.map.specs.Map.{askedSaid, itemOf, itemAt, itemBy, areaAfter}
 
 -- ## An id and a kind
@@ -69,18 +67,18 @@ module _ (map : ℕ) where
   asked-number e other h = rw (e, le-leb 1 map (omega arith), le-leb map 0x7fffffff h)
 
 -- ## Arguments, then opening, then the map
-module _ {A : Type 0} {o : Outcome (ℕ × Kind)} (image : List ℕ) (ask : Chunk → ℕ → Kind → Outcome A) where
+module _ {A : Type 0} {o : Outcome (ℕ × Kind)} (image : List ℕ) (ask : Store → ℕ → Kind → Outcome A) where
   pub asking-bad : {r : Refusal} → o ≡ refuse r → asking o image ask ≡ refuse r
   unfolding asking
   asking-bad e = rw e
 
   module _ {x : ℕ × Kind} (e : o ≡ ok x) where
-    pub asking-shut : {r : Refusal} → opened image ≡ opened.Refused r → asking o image ask ≡ refuse r
-    unfolding asking openedStore
+    pub asking-shut : {r : Refusal} → openedStore image ≡ refuse r → asking o image ask ≡ refuse r
+    unfolding asking
     asking-shut f = rw (e, f)
 
-    pub asking-open : {c : Chunk} → opened image ≡ opened.Newest c → asking o image ask ≡ ask c (x .0) (x .1)
-    unfolding asking openedStore
+    pub asking-open : {s : Store} → openedStore image ≡ ok s → asking o image ask ≡ ask s (x .0) (x .1)
+    unfolding asking
     asking-open f = rw (e, f)
 
 -- ## Keys
@@ -99,7 +97,7 @@ module _ (image : List ℕ) (map kind : ℕ) (key : List ℕ) where
   lookup-bad e = asking-bad image _ (rw e)
 
   pub lookup-asked : {id : ℕ} {k : Kind} → askedMap map kind ≡ ok (id, k)
-      → asking (keyed key (id, k)) image (λ c i l. lookupIn image c i l (keyOf l key)) ≡ lookupOf image map kind key
+      → asking (keyed key (id, k)) image (λ s i l. lookupIn image s i l (keyOf l key)) ≡ lookupOf image map kind key
   unfolding lookupOf
   lookup-asked e = rw e
 
@@ -131,12 +129,12 @@ module _ (name : List ℕ) where
     named-bad e = rw e
 
     module _ (well : wellNamed name ≡ true) where
-      pub named-shut : {r : Refusal} → opened image ≡ opened.Refused r → namedOf image name ≡ refuse r
-      unfolding namedOf openedStore
+      pub named-shut : {r : Refusal} → openedStore image ≡ refuse r → namedOf image name ≡ refuse r
+      unfolding namedOf
       named-shut f = rw (well, f)
 
-      pub named-open : {c : Chunk} → opened image ≡ opened.Newest c → namedMap image c name ≡ namedOf image name
-      unfolding namedOf openedStore namedMap
+      pub named-open : {s : Store} → openedStore image ≡ ok s → namedMap image s name ≡ namedOf image name
+      unfolding namedOf namedMap
       named-open f = rw (named-room well, well, f)
 
 -- ## By what `asked` said
@@ -147,7 +145,7 @@ module _ (map kind : ℕ) (t : Target) (e : askedSaid t ≡ askedMap map kind) w
   pub asked-told : {id : ℕ} {k : Kind} → t ≡ target.Map id k → askedMap map kind ≡ ok (id, k)
   asked-told f = sym e ∙ ap askedSaid f
 
-pub asking-told : {A : Type 0} (image : List ℕ) (ask : Chunk → ℕ → Kind → Outcome A) {o : Outcome (ℕ × Kind)} {x : ℕ × Kind} → o ≡ ok x
+pub asking-told : {A : Type 0} (image : List ℕ) (ask : Store → ℕ → Kind → Outcome A) {o : Outcome (ℕ × Kind)} {x : ℕ × Kind} → o ≡ ok x
     → asking (ok x) image ask ≡ asking o image ask
 asking-told image ask e = ap (λ o. asking o image ask) (sym e)
 
@@ -165,14 +163,14 @@ module _ (image : List ℕ) (kind : Kind) (key size at len : ℕ) where
   unfolding itemAt keyIn keyOf
   item-text e = rw e
 
-pub item-fetched : (image : List ℕ) (newest : Chunk) (map : ℕ) (kind : Kind) (i : ℕ)
-    → itemBy image kind (fetchedOf (indexIn image newest map kind i)) ≡ itemOf (indexIn image newest map kind i)
+pub item-fetched : (image : List ℕ) (store : Store) (map : ℕ) (kind : Kind) (i : ℕ)
+    → itemBy image kind (fetchedOf (indexIn image store map kind i)) ≡ itemOf (indexIn image store map kind i)
 unfolding itemBy itemOf itemAt fetchedOf keyIn
-item-fetched image newest map kind i = go (indexIn image newest map kind i) refl
+item-fetched image store map kind i = go (indexIn image store map kind i) refl
   where
-    go : (o : Outcome (Key × Entry)) → indexIn image newest map kind i ≡ o → itemBy image kind (fetchedOf o) ≡ itemOf o
+    go : (o : Outcome (Key × Entry)) → indexIn image store map kind i ≡ o → itemBy image kind (fetchedOf o) ≡ itemOf o
     go (refuse r) e = refl
-    go (ok (k, x)) e = rw (index-key image newest map kind i k x e)
+    go (ok (k, x)) e = rw (index-key image store map kind i k x e)
 
 -- ## Copy
 -- one byte more at the start of an area
@@ -185,15 +183,15 @@ put-more area s i h k =
 
 -- a value that was looked up lies inside the image
 asking-inside : (image : List ℕ) (o : Outcome (ℕ × Kind)) (k : Kind → Key) (e : Entry)
-    → asking o image (λ c i l. lookupIn image c i l (k l)) ≡ ok (some e) → e .value .at + e .value .len ≤ length image
-unfolding asking openedStore
+    → asking o image (λ s i l. lookupIn image s i l (k l)) ≡ ok (some e) → e .value .at + e .value .len ≤ length image
+unfolding asking
 asking-inside image (refuse r) k e h = refuse-ok r (some e) h
-asking-inside image (ok x) k e h = go (opened image) h
+asking-inside image (ok x) k e h = go (openedStore image) h
   where
-    go : (p : Opened) → bind (openedBy p) (λ c. lookupIn image c (x .0) (x .1) (k (x .1))) ≡ ok (some e)
+    go : (o : Outcome Store) → bind o (λ s. lookupIn image s (x .0) (x .1) (k (x .1))) ≡ ok (some e)
         → e .value .at + e .value .len ≤ length image
-    go (opened.Refused r) h = refuse-ok r (some e) h
-    go (opened.Newest c) h = lookup-inside image c (x .0) (x .1) (k (x .1)) e h
+    go (refuse r) h = refuse-ok r (some e) h
+    go (ok s) h = lookup-inside image s (x .0) (x .1) (k (x .1)) e h
 
 -- the entry of a value that is given by its place
 pub record Looked (o : Outcome (Option Entry)) (at len : ℕ) : Type 0 where

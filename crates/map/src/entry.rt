@@ -2,9 +2,9 @@
 use super::Target;
 use super::asked;
 use key::Kind;
-use opening::Opened;
 use refusal::Refusal;
 use store::Fetched;
+use viewing::Viewed;
 ghost use mathlib.Core.Path.{_≡_};
 ghost use Rattle.refusal.specs.Refusal.{ok};
 ghost use Rattle.store.specs.Asking.{indexIn};
@@ -54,12 +54,12 @@ fn item_by(image: &[u8], kind: Kind, f: Fetched) -> Item
 
 // The entry numbered `index` of a map that may be asked for.
 fn index_in(image: &[u8], id: u32, kind: Kind, index: u64) -> Item
-    ensures { λ r. ⌜ r ≡ itemOf (asking (ok (id, kind)) (now (image .entry)) (λ c i k. indexIn (now (image .entry)) c i k index)) ⌝ }
+    ensures { λ r. ⌜ r ≡ itemOf (asking (ok (id, kind)) (now (image .entry)) (λ s i k. indexIn (now (image .entry)) s i k index)) ⌝ }
 {
-    let o = opening::open(image);
+    let o = viewing::open(image);
     match o {
-        Opened::Refused(r) => Item::Refused(r),
-        Opened::Newest(c) => item_by(image, kind, store::index(image, c, id, kind, index)),
+        Viewed::Refused(r) => Item::Refused(r),
+        Viewed::Is(s) => item_by(image, kind, store::index(image, s, id, kind, index)),
     }
 }
 

@@ -10,9 +10,9 @@ pub use entry::item_at;
 use key::Kind;
 use metadata::Id;
 use metadata::Value;
-use opening::Opened;
 use refusal::Refusal;
 use store::Counted;
+use viewing::Viewed;
 ghost use mathlib.Core.Path.{_≡_};
 ghost use Rattle.refusal.specs.Refusal.{ok};
 ghost use Rattle.metadata.specs.Answers.{idSaid};
@@ -57,15 +57,15 @@ pub fn asked(map: u64, kind: u64) -> Target
 
 // A lookup in a map that may be asked for.
 fn lookup_in(image: &[u8], id: u32, kind: Kind, key: &[u8]) -> Value
-    ensures { λ r. ⌜ r ≡ valueOf (asking (keyed (now (key .entry)) (id, kind)) (now (image .entry)) (λ c i k. lookupIn (now (image .entry)) c i k (keyOf k (now (key .entry))))) ⌝ }
+    ensures { λ r. ⌜ r ≡ valueOf (asking (keyed (now (key .entry)) (id, kind)) (now (image .entry)) (λ s i k. lookupIn (now (image .entry)) s i k (keyOf k (now (key .entry))))) ⌝ }
 {
     if key::well_formed(kind, key) {} else {
         return Value::Refused(Refusal::new(Refusal::ARGUMENT));
     }
-    let o = opening::open(image);
+    let o = viewing::open(image);
     match o {
-        Opened::Refused(r) => Value::Refused(r),
-        Opened::Newest(c) => store::lookup(image, c, id, kind, key),
+        Viewed::Refused(r) => Value::Refused(r),
+        Viewed::Is(s) => store::lookup(image, s, id, kind, key),
     }
 }
 
@@ -82,12 +82,12 @@ pub fn lookup(image: &[u8], map: u64, kind: u64, key: &[u8]) -> Value
 
 // How many entries a map has that may be asked for.
 fn count_in(image: &[u8], id: u32, kind: Kind) -> Counted
-    ensures { λ r. ⌜ r ≡ countedOf (asking (ok (id, kind)) (now (image .entry)) (λ c i k. countIn (now (image .entry)) c i k)) ⌝ }
+    ensures { λ r. ⌜ r ≡ countedOf (asking (ok (id, kind)) (now (image .entry)) (λ s i k. countIn (now (image .entry)) s i k)) ⌝ }
 {
-    let o = opening::open(image);
+    let o = viewing::open(image);
     match o {
-        Opened::Refused(r) => Counted::Refused(r),
-        Opened::Newest(c) => store::count(image, c, id, kind),
+        Viewed::Refused(r) => Counted::Refused(r),
+        Viewed::Is(s) => store::count(image, s, id, kind),
     }
 }
 
@@ -122,9 +122,9 @@ pub fn named(image: &[u8], name: &[u8]) -> Id
     if well_named(name) {} else {
         return Id::Refused(Refusal::new(Refusal::ARGUMENT));
     }
-    let o = opening::open(image);
+    let o = viewing::open(image);
     match o {
-        Opened::Refused(r) => Id::Refused(r),
-        Opened::Newest(c) => store::map_id(image, c, name),
+        Viewed::Refused(r) => Id::Refused(r),
+        Viewed::Is(s) => store::map_id(image, s, name),
     }
 }

@@ -2,8 +2,7 @@
 use Prim.Native.Nat.{ℕ}
 use lib.IntN.{pos}
 use Rattle.refusal.specs.Refusal.{Outcome, ok, refuse}
-use Rattle.opening.specs.declared.Opened.{Opened}
-use Rattle.opening.specs.declared.Opened.the-variants as opened
+use Rattle.opening.specs.declared.Store.{Store}
 use Rattle.metadata.specs.declared.Value.{Value as Found}
 use Rattle.metadata.specs.declared.Value.the-variants as found
 use Rattle.store.specs.declared.Counted.{Counted}
@@ -25,9 +24,11 @@ use Rattle.mvstore.specs.declared.answer.Step.{Step}
 use Rattle.mvstore.specs.declared.answer.Report.{Report}
 
 -- opening
-unfoldable pub newestOut : Opened → Newest
-newestOut (opened.Newest c) = record { refusal = 0; chunk = c .id; block = c .block; blocks = c .len; version = c .version }
-newestOut (opened.Refused r) = record { refusal = r .number; chunk = 0; block = 0; blocks = 0; version = 0 }
+unfoldable pub newestOut : Outcome Store → Newest
+newestOut (ok s) =
+    let c = s .newest in
+    record { refusal = 0; chunk = c .id; block = c .block; blocks = c .len; version = c .version }
+newestOut (refuse r) = record { refusal = r .number; chunk = 0; block = 0; blocks = 0; version = 0 }
 
 -- lookup and copy: Absent is neither a refusal nor a value of length 0
 unfoldable pub valueOut : Found → Value

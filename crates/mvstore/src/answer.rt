@@ -1,13 +1,14 @@
 // What the exports hand to C: a struct for each answer, and how it is made of the answers in Rattle.
 use cursor::Walk;
 use map::Item;
-use opening::Opened;
 use soundness::Examined;
 use store::Counted;
+use viewing::Viewed;
 use walk::Next;
 ghost use mathlib.Core.Path.{_≡_};
 ghost use lib.ListN.{length};
 ghost use Rattle.metadata.specs.Answers.{idSaid};
+ghost use Rattle.viewing.specs.Viewing.{storeSaid};
 ghost use Rattle.mvstore.specs.Exports.{newestOut, valueOut, entryOut, countOut, idOut, stopOut, stepOut, reportOut};
 
 // What opening answers: the newest chunk, its first block and how many it has, and its version.
@@ -74,18 +75,21 @@ pub struct Report {
     pub pages: u64,
 }
 
-pub(crate) fn newest_out(o: Opened) -> Newest
-    ensures { λ r. ⌜ r ≡ newestOut o ⌝ }
+pub(crate) fn newest_out(v: Viewed) -> Newest
+    ensures { λ r. ⌜ r ≡ newestOut (storeSaid v) ⌝ }
 {
-    match o {
-        Opened::Newest(c) => Newest {
-            refusal: 0,
-            chunk: c.id,
-            block: c.block,
-            blocks: c.len,
-            version: c.version,
-        },
-        Opened::Refused(r) => Newest {
+    match v {
+        Viewed::Is(s) => {
+            let c = s.newest;
+            Newest {
+                refusal: 0,
+                chunk: c.id,
+                block: c.block,
+                blocks: c.len,
+                version: c.version,
+            }
+        }
+        Viewed::Refused(r) => Newest {
             refusal: r.number as u32,
             chunk: 0,
             block: 0,

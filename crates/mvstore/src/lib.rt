@@ -20,7 +20,7 @@ use answer::value_out;
 use cursor::Walk;
 ghost use mathlib.Core.Path.{_≡_};
 ghost use lib.ListN.{length};
-ghost use Rattle.opening.specs.Opening.{opened};
+ghost use Rattle.viewing.specs.Viewing.{openedStore};
 ghost use Rattle.store.specs.Asking.{valueOf, countedOf};
 ghost use Rattle.soundness.specs.Examining.{examinedOf};
 ghost use Rattle.walk.specs.Stepping.{stepOf};
@@ -30,9 +30,9 @@ ghost use Rattle.mvstore.specs.Exports.{newestOut, valueOut, entryOut, c
 
 #[no_mangle]
 pub extern "C" fn mvstore_newest(image: &[u8]) -> Newest
-    ensures { λ r. ⌜ r ≡ newestOut (opened (now (image .entry))) ⌝ }
+    ensures { λ r. ⌜ r ≡ newestOut (openedStore (now (image .entry))) ⌝ }
 {
-    newest_out(opening::open(image))
+    newest_out(viewing::open(image))
 }
 
 #[no_mangle]

@@ -18,6 +18,11 @@ ghost use mathlib.Core.Path.{_≡_};
 ghost use Rattle.chunk.specs.Image.{blocksIn};
 ghost use Rattle.opening.specs.Opening.{headerStart, footerStart, higher, successor, chain, newestFrom, opened};
 
+// A store that is open: its newest chunk, which says where chunks stand.
+pub struct Store {
+    pub newest: Chunk,
+}
+
 // The newest chunk, or why the image does not open.
 pub enum Opened {
     Newest(Chunk),

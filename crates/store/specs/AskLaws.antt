@@ -23,7 +23,7 @@ use Rattle.tree.specs.OutcomeLaws.{bind-ok}
 use Rattle.tree.specs.Walk.{mapNext}
 use Rattle.tree.specs.WalkHoldsLaws.{Holds, map-next-holds}
 use Rattle.tree.specs.HoldsLaws.{InLeaf, map-lookup-holds, map-index-holds, map-entries-hold}
-use Rattle.chunk.specs.declared.Chunk.{Chunk}
+use Rattle.opening.specs.declared.Store.{Store}
 use Rattle.page.specs.declared.Judged.{Judged}
 use Rattle.page.specs.declared.Judged.the-variants as judged
 use Rattle.content.specs.declared.Nth.{Nth}
@@ -125,123 +125,123 @@ count-judged image kind (judged.Refused r) w = refl
 count-judged image kind (judged.Leaf n keys values e) w = ap counted.Is (sym (w .all-entries))
 count-judged image kind (judged.Inner n positions counts keys e total) w = ap counted.Is (sym (total-whole w))
 
-module _ (image : List ℕ) (newest : Chunk) (map : ℕ) (kind : Kind) where
+module _ (image : List ℕ) (store : Store) (map : ℕ) (kind : Kind) where
   -- ## Index, from the root down
   module _ (i p : ℕ) where
-    pub index-empty : p ≡ 0 → {r : Refusal} → r ≡ badIndex → fetched.Refused r ≡ fetchedOf (mapIndex (reader image newest map kind) i p)
+    pub index-empty : p ≡ 0 → {r : Refusal} → r ≡ badIndex → fetched.Refused r ≡ fetchedOf (mapIndex (reader image store map kind) i p)
     unfolding fetchedOf mapIndex
     index-empty e q = rw (e, q)
 
-    pub index-root : ¬ (p ≡ 0) → fetchedOf (index (reader image newest map kind) 16 i p) ≡ fetchedOf (mapIndex (reader image newest map kind) i p)
+    pub index-root : ¬ (p ≡ 0) → fetchedOf (index (reader image store map kind) 16 i p) ≡ fetchedOf (mapIndex (reader image store map kind) i p)
     unfolding mapIndex
     index-root other = go p other
       where
-        go : (q : ℕ) → ¬ (q ≡ 0) → fetchedOf (index (reader image newest map kind) 16 i q) ≡ fetchedOf (mapIndex (reader image newest map kind) i q)
+        go : (q : ℕ) → ¬ (q ≡ 0) → fetchedOf (index (reader image store map kind) 16 i q) ≡ fetchedOf (mapIndex (reader image store map kind) i q)
         go zero h = absurd (h refl)
         go (suc q) h = refl
 
     pub index-deep : (levels : ℕ) → levels ≤ 0 → {r : Refusal} → r ≡ tooDeep
-        → fetched.Refused r ≡ fetchedOf (index (reader image newest map kind) levels i p)
+        → fetched.Refused r ≡ fetchedOf (index (reader image store map kind) levels i p)
     unfolding fetchedOf index
     index-deep zero h e = rw e
     index-deep (suc levels) h e = absurd (omega arith)
 
-    module _ (levels : ℕ) (h : 0 < levels) (j : Judged) (e : j ≡ judgedBy image newest map kind p) (t : Turn) (f : t ≡ turnOf image kind i j) where
-      index-level : fetchedOf (index (reader image newest map kind) levels i p) ≡ wentOn (index (reader image newest map kind) (levels - 1)) t
+    module _ (levels : ℕ) (h : 0 < levels) (j : Judged) (e : j ≡ judgedBy image store map kind p) (t : Turn) (f : t ≡ turnOf image kind i j) where
+      index-level : fetchedOf (index (reader image store map kind) levels i p) ≡ wentOn (index (reader image store map kind) (levels - 1)) t
       unfolding index
       index-level = go levels h
         where
-          go : (l : ℕ) → 0 < l → fetchedOf (index (reader image newest map kind) l i p) ≡ wentOn (index (reader image newest map kind) (l - 1)) t
+          go : (l : ℕ) → 0 < l → fetchedOf (index (reader image store map kind) l i p) ≡ wentOn (index (reader image store map kind) (l - 1)) t
           go zero k = absurd (omega arith)
           go (suc l) k =
               let less : suc l - 1 ≡ l = omega arith in
-              rw (reader-judged image newest map kind p, ← e, f, less)
-              (index-turn (index (reader image newest map kind) l) image kind i j (rw (← e) at (judged-all image newest map kind p)))
+              rw (reader-judged image store map kind p, ← e, f, less)
+              (index-turn (index (reader image store map kind) l) image kind i j (rw (← e) at (judged-all image store map kind p)))
 
       pub index-child : {q : Position} {rest : ℕ} → t ≡ turn.Child q rest
-          → fetchedOf (index (reader image newest map kind) levels i p) ≡ fetchedOf (index (reader image newest map kind) (levels - 1) rest (q .bits))
+          → fetchedOf (index (reader image store map kind) levels i p) ≡ fetchedOf (index (reader image store map kind) (levels - 1) rest (q .bits))
       index-child g = rw g at index-level
 
-      pub index-done : {a : Fetched} → t ≡ turn.Done a → fetchedOf (index (reader image newest map kind) levels i p) ≡ a
+      pub index-done : {a : Fetched} → t ≡ turn.Done a → fetchedOf (index (reader image store map kind) levels i p) ≡ a
       index-done g = rw g at index-level
 
   -- ## Count, at the root
   module _ (p : ℕ) where
-    pub count-empty : p ≡ 0 → counted.Is 0 ≡ countedOf (mapCount (reader image newest map kind) p)
+    pub count-empty : p ≡ 0 → counted.Is 0 ≡ countedOf (mapCount (reader image store map kind) p)
     unfolding countedOf mapCount
     count-empty e = rw e
 
-    pub count-root : ¬ (p ≡ 0) → {j k : Judged} → j ≡ judgedBy image newest map kind p → j ≡ k
-        → countedBy k ≡ countedOf (mapCount (reader image newest map kind) p)
+    pub count-root : ¬ (p ≡ 0) → {j k : Judged} → j ≡ judgedBy image store map kind p → j ≡ k
+        → countedBy k ≡ countedOf (mapCount (reader image store map kind) p)
     unfolding mapCount
     count-root other {j} {k} e f = go p other (sym f ∙ e)
       where
-        go : (q : ℕ) → ¬ (q ≡ 0) → k ≡ judgedBy image newest map kind q → countedBy k ≡ countedOf (mapCount (reader image newest map kind) q)
+        go : (q : ℕ) → ¬ (q ≡ 0) → k ≡ judgedBy image store map kind q → countedBy k ≡ countedOf (mapCount (reader image store map kind) q)
         go zero h d = absurd (h refl)
         go (suc q) h d =
-            rw (d, reader-judged image newest map kind (suc q))
-            (count-judged image kind (judgedBy image newest map kind (suc q)) (judged-all image newest map kind (suc q)))
+            rw (d, reader-judged image store map kind (suc q))
+            (count-judged image kind (judgedBy image store map kind (suc q)) (judged-all image store map kind (suc q)))
 
   -- ## By the map's root
-  module _ (r : Root) (e : rootSaid r ≡ mapRoot image newest map) where
-    rooted : {A : Type 0} (ask : ℕ → Outcome A) {s : Root} → r ≡ s → bind (rootSaid s) ask ≡ bind (mapRoot image newest map) ask
+  module _ (r : Root) (e : rootSaid r ≡ mapRoot image store map) where
+    rooted : {A : Type 0} (ask : ℕ → Outcome A) {s : Root} → r ≡ s → bind (rootSaid s) ask ≡ bind (mapRoot image store map) ask
     rooted ask f = rw (← f, e)
 
     module _ {p : Position} (f : r ≡ root.At p) where
-      pub lookup-rooted : (k : Key) (l : Answer) → IsAnswer image newest map kind (p .bits) k 8 l → valueBy l ≡ valueOf (lookupIn image newest map kind k)
+      pub lookup-rooted : (k : Key) (l : Answer) → IsAnswer image store map kind (p .bits) k 8 l → valueBy l ≡ valueOf (lookupIn image store map kind k)
       unfolding lookupIn
-      lookup-rooted k l s = value-sought image newest map kind (p .bits) k l s ∙ ap valueOf (rooted _ f)
+      lookup-rooted k l s = value-sought image store map kind (p .bits) k l s ∙ ap valueOf (rooted _ f)
 
-      pub index-rooted : (i : ℕ) → fetchedOf (mapIndex (reader image newest map kind) i (p .bits)) ≡ fetchedOf (indexIn image newest map kind i)
+      pub index-rooted : (i : ℕ) → fetchedOf (mapIndex (reader image store map kind) i (p .bits)) ≡ fetchedOf (indexIn image store map kind i)
       unfolding indexIn
       index-rooted i = ap fetchedOf (rooted _ f)
 
-      pub count-rooted : countedOf (mapCount (reader image newest map kind) (p .bits)) ≡ countedOf (countIn image newest map kind)
+      pub count-rooted : countedOf (mapCount (reader image store map kind) (p .bits)) ≡ countedOf (countIn image store map kind)
       unfolding countIn
       count-rooted = ap countedOf (rooted _ f)
 
     module _ {x : Refusal} (f : r ≡ root.Refused x) where
-      pub lookup-rootless : (k : Key) → value.Refused x ≡ valueOf (lookupIn image newest map kind k)
+      pub lookup-rootless : (k : Key) → value.Refused x ≡ valueOf (lookupIn image store map kind k)
       unfolding lookupIn valueOf
       lookup-rootless k = ap valueOf (rooted _ f)
 
-      pub index-rootless : (i : ℕ) → fetched.Refused x ≡ fetchedOf (indexIn image newest map kind i)
+      pub index-rootless : (i : ℕ) → fetched.Refused x ≡ fetchedOf (indexIn image store map kind i)
       unfolding indexIn fetchedOf
       index-rootless i = ap fetchedOf (rooted _ f)
 
-      pub count-rootless : counted.Refused x ≡ countedOf (countIn image newest map kind)
+      pub count-rootless : counted.Refused x ≡ countedOf (countIn image store map kind)
       unfolding countIn countedOf
       count-rootless = ap countedOf (rooted _ f)
 
   -- ## What is given lies in the image
-  reader-in : (p : ℕ) → InLeaf (EntryIn image kind) (reader image newest map kind p)
-  reader-in p = rw (reader-judged image newest map kind p) (page-in image kind (judgedBy image newest map kind p))
+  reader-in : (p : ℕ) → InLeaf (EntryIn image kind) (reader image store map kind p)
+  reader-in p = rw (reader-judged image store map kind p) (page-in image kind (judgedBy image store map kind p))
 
-  pub lookup-inside : (k : Key) (e : Entry) → lookupIn image newest map kind k ≡ ok (some e) → e .value .at + e .value .len ≤ length image
+  pub lookup-inside : (k : Key) (e : Entry) → lookupIn image store map kind k ≡ ok (some e) → e .value .at + e .value .len ≤ length image
   unfolding lookupIn
   lookup-inside k e h =
-      let b = bind-ok (mapRoot image newest map) _ _ h in
-      let x = map-lookup-holds (EntryIn image kind) (reader image newest map kind) reader-in compareKeys k (b .0) (b .2) in
+      let b = bind-ok (mapRoot image store map) _ _ h in
+      let x = map-lookup-holds (EntryIn image kind) (reader image store map kind) reader-in compareKeys k (b .0) (b .2) in
       x .1 .value-inside
 
-  index-in : (i : ℕ) (x : Key × Entry) → indexIn image newest map kind i ≡ ok x → EntryIn image kind x
+  index-in : (i : ℕ) (x : Key × Entry) → indexIn image store map kind i ≡ ok x → EntryIn image kind x
   unfolding indexIn
   index-in i x h =
-      let b = bind-ok (mapRoot image newest map) _ _ h in
-      map-index-holds (EntryIn image kind) (reader image newest map kind) reader-in i (b .0) (b .2)
+      let b = bind-ok (mapRoot image store map) _ _ h in
+      map-index-holds (EntryIn image kind) (reader image store map kind) reader-in i (b .0) (b .2)
 
-  module _ (i : ℕ) (k : Key) (e : Entry) (h : indexIn image newest map kind i ≡ ok (k, e)) where
+  module _ (i : ℕ) (k : Key) (e : Entry) (h : indexIn image store map kind i ≡ ok (k, e)) where
     pub index-inside : (e .key .at + e .key .len ≤ length image) × (e .value .at + e .value .len ≤ length image)
     index-inside = let x = index-in i (k, e) h in (x .key-inside, x .value-inside)
 
     pub index-key : k ≡ keyIn image kind (e .key)
     index-key = index-in i (k, e) h .key-there
 
-  pub entries-in : (p : ℕ) → All (EntryIn image kind) (mapEntries (reader image newest map kind) p)
-  entries-in p = map-entries-hold (EntryIn image kind) (reader image newest map kind) reader-in p
+  pub entries-in : (p : ℕ) → All (EntryIn image kind) (mapEntries (reader image store map kind) p)
+  entries-in p = map-entries-hold (EntryIn image kind) (reader image store map kind) reader-in p
 
-  pub next-in : (is : List ℕ) (p : ℕ) → Holds (EntryIn image kind) (mapNext (reader image newest map kind) is p)
-  next-in is p = map-next-holds (EntryIn image kind) (reader image newest map kind) reader-in is p
+  pub next-in : (is : List ℕ) (p : ℕ) → Holds (EntryIn image kind) (mapNext (reader image store map kind) is p)
+  next-in is p = map-next-holds (EntryIn image kind) (reader image store map kind) reader-in is p
 
-  pub entries-key : (p : ℕ) → All (λ x. x .0 ≡ keyIn image kind (x .1 .key)) (mapEntries (reader image newest map kind) p)
-  entries-key p = all-imp (λ x h. h .key-there) (mapEntries (reader image newest map kind) p) (entries-in p)
+  pub entries-key : (p : ℕ) → All (λ x. x .0 ≡ keyIn image kind (x .1 .key)) (mapEntries (reader image store map kind) p)
+  entries-key p = all-imp (λ x h. h .key-there) (mapEntries (reader image store map kind) p) (entries-in p)

@@ -1,7 +1,7 @@
 -- What is asked of a map in a store that is open, after document 01, "Asking": the map's root is found first.
 --
---   judgedBy image newest map kind p    the page at p as it is judged: `reader` is this page as data
---   inMap image newest map ask          what `ask` says of the map's root
+--   judgedBy image store map kind p    the page at p as it is judged: `reader` is this page as data
+--   inMap image store map ask          what `ask` says of the map's root
 --   lookupIn, indexIn, countIn          lookup, index and count of a map by its id and kind
 --   valueOf, fetchedOf, countedOf       what the code hands back
 --   turnOf image kind i j               one page of a fetch by index: the child to go on at, or the answer
@@ -15,7 +15,7 @@ use Rattle.key.specs.declared.Kind.{Kind}
 use Rattle.key.specs.Key.{Key, compareKeys}
 use Rattle.tree.specs.Asking.{mapLookup, mapIndex, mapCount}
 use Rattle.locating.specs.Locating.{readAt}
-use Rattle.chunk.specs.declared.Chunk.{Chunk}
+use Rattle.opening.specs.declared.Store.{Store}
 use Rattle.page.specs.declared.Judged.{Judged}
 use Rattle.page.specs.declared.Judged.the-variants as judged
 use Rattle.page.specs.Judged.{judgedAt}
@@ -35,23 +35,23 @@ abbrev pub judgedIn : Outcome Judged → Judged
 judgedIn (ok j) = j
 judgedIn (refuse r) = judged.Refused r
 
-unfoldable pub judgedBy : List ℕ → Chunk → ℕ → Kind → ℕ → Judged
-judgedBy image newest map kind p =
-    judgedIn (readAt chunkOf (chunkAt image newest 8) (λ l q. ok (judgedAt image l q map kind)) p)
+unfoldable pub judgedBy : List ℕ → Store → ℕ → Kind → ℕ → Judged
+judgedBy image store map kind p =
+    judgedIn (readAt chunkOf (chunkAt image store 8) (λ l q. ok (judgedAt image l q map kind)) p)
 
 -- ## Questions
-module _ (image : List ℕ) (newest : Chunk) (map : ℕ) where
+module _ (image : List ℕ) (store : Store) (map : ℕ) where
   abbrev pub inMap : {A : Type 0} → (ℕ → Outcome A) → Outcome A
-  inMap ask = bind (mapRoot image newest map) ask
+  inMap ask = bind (mapRoot image store map) ask
 
   unfoldable pub lookupIn : Kind → Key → Outcome (Option Entry)
-  lookupIn kind k = inMap (mapLookup compareKeys (reader image newest map kind) k)
+  lookupIn kind k = inMap (mapLookup compareKeys (reader image store map kind) k)
 
   unfoldable pub indexIn : Kind → ℕ → Outcome (Key × Entry)
-  indexIn kind i = inMap (mapIndex (reader image newest map kind) i)
+  indexIn kind i = inMap (mapIndex (reader image store map kind) i)
 
   unfoldable pub countIn : Kind → Outcome ℕ
-  countIn kind = inMap (mapCount (reader image newest map kind))
+  countIn kind = inMap (mapCount (reader image store map kind))
 
 -- ## What the code hands back
 -- "A found value is given as its place in the image and its length"

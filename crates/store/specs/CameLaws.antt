@@ -22,7 +22,7 @@ use Rattle.tree.specs.Examination.{Report, nothing, both, counted, examineChild
 use Rattle.tree.specs.InnerPage.{childrenFrom, sum, examineFrom}
 use Rattle.tree.specs.ChildrenLaws.{more-from, last-from, examine-from}
 use Rattle.tree.specs.Bounds.{Few, Small, nothing-few, both-few, children-small, children-total, examine-bounded, examine-below}
-use Rattle.chunk.specs.declared.Chunk.{Chunk}
+use Rattle.opening.specs.declared.Store.{Store}
 use Rattle.item.specs.Step.{upTo}
 use Rattle.item.specs.Item.{items, countAt}
 use Rattle.page.specs.Judged.{keyForm}
@@ -52,8 +52,8 @@ both-nothing (ok a) =
     λ i. ok (record { entries = e i; pages = p i; depth = d i })
 both-nothing (refuse r) = refl
 
-abbrev pub childIn : List ℕ → Chunk → ℕ → Kind → ℕ → Option Key → Option Key → ℕ → Outcome Report
-childIn image newest m kind levels = examine compareKeys (reader image newest m kind) levels false
+abbrev pub childIn : List ℕ → Store → ℕ → Kind → ℕ → Option Key → Option Key → ℕ → Outcome Report
+childIn image store m kind levels = examine compareKeys (reader image store m kind) levels false
 
 -- an inner page's parts
 abbrev pub cutOf : List ℕ → Inner → List ℕ
@@ -68,17 +68,17 @@ countsOf image b = countsIn (cutOf image b) (b .n + 1) (b .counts)
 abbrev pub separatorsOf : List ℕ → Kind → Inner → List Key
 separatorsOf image kind b = keysIn (cutOf image b) kind (b .n) (b .keys)
 
-abbrev pub childrenExamined : List ℕ → Chunk → ℕ → Kind → ℕ → Inner → Bound → Bound → Outcome Report
-childrenExamined image newest m kind levels b lo hi =
-    examineChildren (childIn image newest m kind levels) (boundKey image kind lo) (boundKey image kind hi)
+abbrev pub childrenExamined : List ℕ → Store → ℕ → Kind → ℕ → Inner → Bound → Bound → Outcome Report
+childrenExamined image store m kind levels b lo hi =
+    examineChildren (childIn image store m kind levels) (boundKey image kind lo) (boundKey image kind hi)
     (childrenIn (cutOf image b) kind (b .n) (b .positions) (b .counts) (b .keys))
 
-module _ (image : List ℕ) (newest : Chunk) (m : ℕ) (kind : Kind) (levels : ℕ) where
-  child-bounds : (lo hi : Option Key) (p : ℕ) (a : Report) → childIn image newest m kind levels lo hi p ≡ ok a
+module _ (image : List ℕ) (store : Store) (m : ℕ) (kind : Kind) (levels : ℕ) where
+  child-bounds : (lo hi : Option Key) (p : ℕ) (a : Report) → childIn image store m kind levels lo hi p ≡ ok a
       → (a .entries < 2 ^ 48) × Small levels a
   child-bounds lo hi p a e = (
-    examine-below compareKeys (reader image newest m kind) (2 ^ 48) (reader-below image newest m kind) levels false lo hi p a e,
-    examine-bounded compareKeys (reader image newest m kind) levels false lo hi p a e,
+    examine-below compareKeys (reader image store m kind) (2 ^ 48) (reader-below image store m kind) levels false lo hi p a e,
+    examine-bounded compareKeys (reader image store m kind) levels false lo hi p a e,
   )
 
   module _ (b : Inner) (start hi : Bound) where
@@ -89,9 +89,9 @@ module _ (image : List ℕ) (newest : Chunk) (m : ℕ) (kind : Kind) (levels : �
           ≡ drop j (separatorsOf image kind b)
       pub below : r .entries + sum (drop j (countsOf image b)) < 2 ^ 48
       pub few : Few levels (reported r)
-      pub same : examineFrom (childIn image newest m kind levels) (reported r) (boundKey image kind lo) (boundKey image kind hi)
+      pub same : examineFrom (childIn image store m kind levels) (reported r) (boundKey image kind lo) (boundKey image kind hi)
           (childrenFrom (positionsOf image b) (countsOf image b) (separatorsOf image kind b) j)
-          ≡ childrenExamined image newest m kind levels b start hi
+          ≡ childrenExamined image store m kind levels b start hi
 
     module _ {total : ℕ} (w : InnerWhole (cutOf image b) kind (b .n) (b .positions) (b .counts) (b .keys) total) where
       pub came-first : Came 0 (b .counts) (b .keys) start (record { entries = 0; pages = 0; depth = 0 })
@@ -104,7 +104,7 @@ module _ (image : List ℕ) (newest : Chunk) (m : ℕ) (kind : Kind) (levels : �
             keys-left = rw all (sym (keys-at image kind (b .end) (b .n) (b .keys)));
             below = omega (arith, w .sum-total, w .below);
             few = nothing-few levels;
-            same = examine-from (childIn image newest m kind levels) nothing (boundKey image kind start) (boundKey image kind hi)
+            same = examine-from (childIn image store m kind levels) nothing (boundKey image kind start) (boundKey image kind hi)
                 (childrenIn (cutOf image b) kind (b .n) (b .positions) (b .counts) (b .keys)) ∙ both-nothing _;
           }
 
@@ -139,23 +139,23 @@ module _ (image : List ℕ) (newest : Chunk) (m : ℕ) (kind : Kind) (levels : �
 
         -- the child, and what is left to do
         abbrev pub outcome : Outcome Report
-        outcome = childIn image newest m kind levels (boundKey image kind lo) (boundKey image kind (c .hi)) (c .position .bits)
+        outcome = childIn image store m kind levels (boundKey image kind lo) (boundKey image kind (c .hi)) (c .position .bits)
 
         module _ (h : j < b .n) where
           bound-here : boundKey image kind (c .hi) ≡ some (getD (separatorsOf image kind b) j (text []))
           bound-here = rw (separator-here h .0) (key-here h .bound)
 
-          more-here : bind (bind outcome (counted (c .count))) (λ x. examineFrom (childIn image newest m kind levels) (both (reported r) x)
+          more-here : bind (bind outcome (counted (c .count))) (λ x. examineFrom (childIn image store m kind levels) (both (reported r) x)
               (boundKey image kind (c .hi)) (boundKey image kind hi)
               (childrenFrom (positionsOf image b) (countsOf image b) (separatorsOf image kind b) (suc j)))
-              ≡ childrenExamined image newest m kind levels b start hi
+              ≡ childrenExamined image store m kind levels b start hi
           more-here =
               let h : j < length (separatorsOf image kind b) = omega (arith, w .all-keys) in
               let all = more-from (positionsOf image b) (countsOf image b) (separatorsOf image kind b) (text []) j h in
               rw (bound-here, ← position-here, ← count-here .0) (rw all at (a .same))
 
         end-here : j ≡ b .n → bind (bind outcome (counted (c .count))) (λ x. ok (both (reported r) x))
-            ≡ childrenExamined image newest m kind levels b start hi
+            ≡ childrenExamined image store m kind levels b start hi
         end-here e =
             let n : j ≡ length (separatorsOf image kind b) = e ∙ sym (w .all-keys) in
             let all = last-from (positionsOf image b) (countsOf image b) (separatorsOf image kind b) in
@@ -168,13 +168,13 @@ module _ (image : List ℕ) (newest : Chunk) (m : ℕ) (kind : Kind) (levels : �
             (λ x q. let k = child-bounds _ _ _ x q in (k .0, k .1 .rest)))
 
         module _ {x t : Examined} (ex : x ≡ examinedOf outcome) (et : t ≡ tallied r (c .count) x) where
-          pub came-stopped : {y : Refusal} → t ≡ examined.Refused y → t ≡ examinedOf (childrenExamined image newest m kind levels b start hi)
+          pub came-stopped : {y : Refusal} → t ≡ examined.Refused y → t ≡ examinedOf (childrenExamined image store m kind levels b start hi)
           came-stopped {y} e = e ∙ go (ltb j (b .n)) refl
             where
               refused : tallied r (c .count) (examinedOf outcome) ≡ examined.Refused y
               refused = ap (tallied r (c .count)) (sym ex) ∙ sym et ∙ e
 
-              go : (u : Bool) → ltb j (b .n) ≡ u → examined.Refused y ≡ examinedOf (childrenExamined image newest m kind levels b start hi)
+              go : (u : Bool) → ltb j (b .n) ≡ u → examined.Refused y ≡ examinedOf (childrenExamined image store m kind levels b start hi)
               go true q = tally-refused r (c .count) outcome _ refused ∙ ap examinedOf (more-here (ltb-true j (b .n) q))
               go false q =
                   let i : j ≡ b .n = omega (arith, ltb-false j (b .n) q, a .here) in
@@ -184,7 +184,7 @@ module _ (image : List ℕ) (newest : Chunk) (m : ℕ) (kind : Kind) (levels : �
             child-passed : PassedChild r (c .count) outcome z
             child-passed = tally-passed r (c .count) outcome (ap (tallied r (c .count)) (sym ex) ∙ sym et ∙ e)
 
-            pub came-last : j ≡ b .n → examined.Passed z ≡ examinedOf (childrenExamined image newest m kind levels b start hi)
+            pub came-last : j ≡ b .n → examined.Passed z ≡ examinedOf (childrenExamined image store m kind levels b start hi)
             unfolding examinedOf
             came-last i =
                 let p = child-passed in
@@ -211,10 +211,10 @@ module _ (image : List ℕ) (newest : Chunk) (m : ℕ) (kind : Kind) (levels : �
                 })
 
     pub over-fits : levels < 16 → {t : ℕ} → InnerWhole (cutOf image b) kind (b .n) (b .positions) (b .counts) (b .keys) t → {x : Examined}
-        → x ≡ examinedOf (childrenExamined image newest m kind levels b start hi)
+        → x ≡ examinedOf (childrenExamined image store m kind levels b start hi)
         → Fits (record { entries = 0; pages = 1; depth = 1 }) x
     over-fits h w e =
-        let child = childIn image newest m kind levels in
+        let child = childIn image store m kind levels in
         let lo = boundKey image kind start in
         let up = boundKey image kind hi in
         let cs = childrenIn (cutOf image b) kind (b .n) (b .positions) (b .counts) (b .keys) in

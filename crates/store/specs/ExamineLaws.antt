@@ -22,7 +22,7 @@ use Rattle.tree.specs.Rising.{separatorsTest}
 use Rattle.tree.specs.RisingLaws.{keys-test, separators-test}
 use Rattle.tree.specs.Examination.{Report, oneLeaf, over, filled, keysLie, examineChildren, examinePage, examine, mapExamine}
 use Rattle.tree.specs.ChildrenLaws.{separators-childrenOf}
-use Rattle.chunk.specs.declared.Chunk.{Chunk}
+use Rattle.opening.specs.declared.Store.{Store}
 use Rattle.page.specs.declared.Judged.{Judged}
 use Rattle.page.specs.declared.Judged.the-variants as judged
 use Rattle.content.specs.Content.{keysIn, positionsIn, countsIn, entriesIn, pageOf}
@@ -55,10 +55,10 @@ done-is : {x y : Examined} → part.Done x ≡ part.Done y → y ≡ x
 done-is e = cc
 
 -- ## By the page's judgement
-module _ (image : List ℕ) (newest : Chunk) (m : ℕ) (kind : Kind) where
+module _ (image : List ℕ) (store : Store) (m : ℕ) (kind : Kind) where
   abbrev pub examined-at : ℕ → Bool → Bound → Bound → ℕ → Examined
   examined-at levels top lo hi p =
-      examinedOf (examine compareKeys (reader image newest m kind) levels top (boundKey image kind lo) (boundKey image kind hi) p)
+      examinedOf (examine compareKeys (reader image store m kind) levels top (boundKey image kind lo) (boundKey image kind hi) p)
 
   module _ (levels : ℕ) (top : Bool) (lo hi : Bound) (p : ℕ) where
     pub examined-deep : levels ≡ 0 → {r : Refusal} → r ≡ tooDeep → examined.Refused r ≡ examined-at levels top lo hi p
@@ -66,26 +66,26 @@ module _ (image : List ℕ) (newest : Chunk) (m : ℕ) (kind : Kind) where
     examined-deep e i = rw (e, i)
 
     -- the page is read, at a level that is left
-    at-page : ¬ (levels ≡ 0) → {j : Judged} → j ≡ judgedBy image newest m kind p
-        → examinedOf (examinePage compareKeys (examine compareKeys (reader image newest m kind) (levels - 1) false) top (boundKey image kind lo)
+    at-page : ¬ (levels ≡ 0) → {j : Judged} → j ≡ judgedBy image store m kind p
+        → examinedOf (examinePage compareKeys (examine compareKeys (reader image store m kind) (levels - 1) false) top (boundKey image kind lo)
         (boundKey image kind hi) (pageOf image kind j)) ≡ examined-at levels top lo hi p
     unfolding examine
     at-page some-left {j} e = go levels some-left
       where
         go : (l : ℕ) → ¬ (l ≡ 0)
-            → examinedOf (examinePage compareKeys (examine compareKeys (reader image newest m kind) (l - 1) false) top (boundKey image kind lo)
+            → examinedOf (examinePage compareKeys (examine compareKeys (reader image store m kind) (l - 1) false) top (boundKey image kind lo)
             (boundKey image kind hi) (pageOf image kind j)) ≡ examined-at l top lo hi p
         go zero h = absurd (h refl)
-        go (suc l) h = rw (sub-one, e, ← reader-judged image newest m kind p)
+        go (suc l) h = rw (sub-one, e, ← reader-judged image store m kind p)
 
     -- the page is judged to be j
-    module _ (some-left : ¬ (levels ≡ 0)) {j : Judged} (is : j ≡ judgedBy image newest m kind p) where
+    module _ (some-left : ¬ (levels ≡ 0)) {j : Judged} (is : j ≡ judgedBy image store m kind p) where
       examined-refused : {r : Refusal} → j ≡ judged.Refused r → examined.Refused r ≡ examined-at levels top lo hi p
       unfolding examinedOf pageOf
       examined-refused e = rw e at (at-page some-left is)
 
       whole : Whole image kind j
-      whole = rw is (judged-all image newest m kind p)
+      whole = rw is (judged-all image store m kind p)
 
       module _ {n keys values e : ℕ} (k : j ≡ judged.Leaf n keys values e) where
         leaf-read : examinedOf (branch (filled top (entriesIn (take e image) kind n keys values)
@@ -104,7 +104,7 @@ module _ (image : List ℕ) (newest : Chunk) (m : ℕ) (kind : Kind) where
       -- an inner page whose children are to be examined: nothing of it is missing, and they say what it is
       pub record Under (b : Inner) : Type 0 where
         pub all : WholePage image kind b
-        pub children : overChildren (examinedOf (examineChildren (examine compareKeys (reader image newest m kind) (levels - 1) false)
+        pub children : overChildren (examinedOf (examineChildren (examine compareKeys (reader image store m kind) (levels - 1) false)
             (boundKey image kind lo) (boundKey image kind hi)
             (childrenIn (take (b .end) image) kind (b .n) (b .positions) (b .counts) (b .keys)))) ≡ examined-at levels top lo hi p
 
@@ -118,7 +118,7 @@ module _ (image : List ℕ) (newest : Chunk) (m : ℕ) (kind : Kind) where
 
         abbrev below : Outcome Report
         below =
-            examineChildren (examine compareKeys (reader image newest m kind) (levels - 1) false) (boundKey image kind lo)
+            examineChildren (examine compareKeys (reader image store m kind) (levels - 1) false) (boundKey image kind lo)
             (boundKey image kind hi) (childrenIn (take e image) kind n positions counts keys)
 
         inner-read : (t : Bool) → lying ≡ t
@@ -176,27 +176,27 @@ module _ (image : List ℕ) (newest : Chunk) (m : ℕ) (kind : Kind) where
         page-under e = by-children j refl (sym said ∙ e)
 
 -- ## A map
-module _ (image : List ℕ) (newest : Chunk) (m : ℕ) (kind : Kind) (r : Root) (is : rootSaid r ≡ mapRoot image newest m) where
+module _ (image : List ℕ) (store : Store) (m : ℕ) (kind : Kind) (r : Root) (is : rootSaid r ≡ mapRoot image store m) where
   by-root : {o : Outcome ℕ} → rootSaid r ≡ o
-      → examinedOf (bind o (mapExamine compareKeys (reader image newest m kind))) ≡ examinedOf (examineIn image newest m kind)
+      → examinedOf (bind o (mapExamine compareKeys (reader image store m kind))) ≡ examinedOf (examineIn image store m kind)
   unfolding examineIn
   by-root e = rw (← e, is)
 
-  pub map-refused : {x : Refusal} → r ≡ root.Refused x → examined.Refused x ≡ examinedOf (examineIn image newest m kind)
+  pub map-refused : {x : Refusal} → r ≡ root.Refused x → examined.Refused x ≡ examinedOf (examineIn image store m kind)
   unfolding examinedOf
   map-refused e = by-root (ap rootSaid e)
 
   module _ {p : Position} (e : r ≡ root.At p) where
-    pub map-empty : p .bits ≡ 0 → examined.Passed (record { entries = 0; pages = 0; depth = 0 }) ≡ examinedOf (examineIn image newest m kind)
+    pub map-empty : p .bits ≡ 0 → examined.Passed (record { entries = 0; pages = 0; depth = 0 }) ≡ examinedOf (examineIn image store m kind)
     unfolding examinedOf mapExamine
     map-empty z = by-root (ap rootSaid e ∙ ap ok z)
 
-    pub map-examined : ¬ (p .bits ≡ 0) → examined-at image newest m kind 16 true bound.Open bound.Open (p .bits) ≡ examinedOf (examineIn image newest m kind)
+    pub map-examined : ¬ (p .bits ≡ 0) → examined-at image store m kind 16 true bound.Open bound.Open (p .bits) ≡ examinedOf (examineIn image store m kind)
     unfolding mapExamine boundKey
     map-examined other = go (p .bits) other (by-root (ap rootSaid e))
       where
         go : (q : ℕ) → ¬ (q ≡ 0)
-            → examinedOf (mapExamine compareKeys (reader image newest m kind) q) ≡ examinedOf (examineIn image newest m kind)
-            → examinedOf (examine compareKeys (reader image newest m kind) 16 true none none q) ≡ examinedOf (examineIn image newest m kind)
+            → examinedOf (mapExamine compareKeys (reader image store m kind) q) ≡ examinedOf (examineIn image store m kind)
+            → examinedOf (examine compareKeys (reader image store m kind) 16 true none none q) ≡ examinedOf (examineIn image store m kind)
         go zero h k = absurd (h refl)
         go (suc q) h k = k

@@ -1,6 +1,6 @@
 -- The examination of a map in a store that is open, after document 01; and the words of its private contracts.
 --
---   examineIn image newest map kind    the examination of a map by its id and kind
+--   examineIn image store map kind    the examination of a map by its id and kind
 --   examinedUnder, examinedChildren    what the examination of a page, of an inner page's children gives back
 --   WholePage                          nothing is missing of an inner page that was judged
 --   tallied                            the children so far and one more
@@ -13,7 +13,7 @@ use Rattle.refusal.specs.Refusal.{Outcome, unsound}
 use Rattle.key.specs.declared.Kind.{Kind}
 use Rattle.key.specs.Key.{compareKeys}
 use Rattle.tree.specs.Examination.{Report, examine, examineChildren, mapExamine}
-use Rattle.chunk.specs.declared.Chunk.{Chunk}
+use Rattle.opening.specs.declared.Store.{Store}
 use Rattle.content.specs.WholeLaws.{InnerWhole, childrenIn}
 use Rattle.rising.specs.Rising.{boundKey}
 use Rattle.soundness.specs.declared.Span.{Span}
@@ -27,8 +27,8 @@ use Rattle.store.specs.Store.{reader, pagesOf}
 use Rattle.store.specs.Asking.{inMap}
 
 -- ## The examination
-unfoldable pub examineIn : List ℕ → Chunk → ℕ → Kind → Outcome Report
-examineIn image newest map kind = inMap image newest map (mapExamine compareKeys (reader image newest map kind))
+unfoldable pub examineIn : List ℕ → Store → ℕ → Kind → Outcome Report
+examineIn image store map kind = inMap image store map (mapExamine compareKeys (reader image store map kind))
 
 abbrev pub examinedUnder : List ℕ → Map → ℕ → Bool → Span → ℕ → Examined
 examinedUnder image m levels top span p =

@@ -4,7 +4,7 @@ use mathlib.Core.Path.{_≡_}
 use mathlib.Core.List.{List}
 use lib.ListN.{replicate}
 use Rattle.locating.specs.Known.{Known}
-use Rattle.chunk.specs.declared.Chunk.{Chunk}
+use Rattle.opening.specs.declared.Store.{Store}
 use Rattle.page.specs.declared.Place.{Place}
 use Rattle.memory.specs.declared.Recalled.the-variants.{At}
 use Rattle.memory.specs.Words.{recalledIn, rememberedIn}
@@ -12,14 +12,14 @@ use Rattle.memory.specs.WordsLaws.{empty-holds, recalled-holds, remembered-hold
 use Rattle.store.specs.Store.{metadata}
 use Rattle.store.specs.Memory.{RightWords}
 
-pub empty-right : (image : List ℕ) (newest : Chunk) (n : ℕ) → RightWords image newest (replicate n 0)
-empty-right image newest n = record { known = empty-holds (Known (metadata image newest)) n }
+pub empty-right : (image : List ℕ) (store : Store) (n : ℕ) → RightWords image store (replicate n 0)
+empty-right image store n = record { known = empty-holds (Known (metadata image store)) n }
 
-module _ (image : List ℕ) (newest : Chunk) {ws : List ℕ} (right : RightWords image newest ws) (c : ℕ) where
-  pub recalled-known : {l : Place} {need : ℕ} → recalledIn ws c ≡ At l need → Known (metadata image newest) c l need
-  recalled-known e = recalled-holds (Known (metadata image newest)) ws (right .known) c e
+module _ (image : List ℕ) (store : Store) {ws : List ℕ} (right : RightWords image store ws) (c : ℕ) where
+  pub recalled-known : {l : Place} {need : ℕ} → recalledIn ws c ≡ At l need → Known (metadata image store) c l need
+  recalled-known e = recalled-holds (Known (metadata image store)) ws (right .known) c e
 
   pub remembered-right : (l : Place) (need : ℕ) → l .block < 2 ^ 28 → l .first < 2 ^ 32 → need < 16 →
-      Known (metadata image newest) c l need → RightWords image newest (rememberedIn ws c l need)
+      Known (metadata image store) c l need → RightWords image store (rememberedIn ws c l need)
   remembered-right l need b f few known =
-      record { known = remembered-holds (Known (metadata image newest)) c l need b f few ws (right .known) known }
+      record { known = remembered-holds (Known (metadata image store)) c l need b f few ws (right .known) known }

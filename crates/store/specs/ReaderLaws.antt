@@ -10,7 +10,7 @@ use Rattle.refusal.specs.Refusal.{ok, refuse, bind, outOfPlace}
 use Rattle.position.specs.Position.{chunkOf}
 use Rattle.key.specs.declared.Kind.{Kind}
 use Rattle.key.specs.Key.{Key}
-use Rattle.chunk.specs.declared.Chunk.{Chunk}
+use Rattle.opening.specs.declared.Store.{Store}
 use Rattle.tree.specs.Page.{branch, Page, leaf, inner}
 use Rattle.tree.specs.OutcomeLaws.{refuse-ok, bind-ok}
 use Rattle.tree.specs.Bounds.{ReadsBelow}
@@ -19,22 +19,22 @@ use Rattle.content.specs.Content.{Entry, pageIn}
 use Rattle.content.specs.WholeLaws.{leaf-below, inner-below}
 use Rattle.store.specs.Store.{chunkAt, reader}
 
-module _ (image : List ℕ) (newest : Chunk) (map : ℕ) (kind : Kind) where
+module _ (image : List ℕ) (store : Store) (map : ℕ) (kind : Kind) where
   -- a page that is read stands in a located chunk
-  pub reader-page : (p : ℕ) (page : Page Key Entry) → reader image newest map kind p ≡ ok page
+  pub reader-page : (p : ℕ) (page : Page Key Entry) → reader image store map kind p ≡ ok page
       → (l : Place) × (pageIn image l p map kind ≡ ok page)
   unfolding reader
   reader-page p page e = go (eqb p 0) e
     where
       go : (t : Bool)
-          → branch t (refuse outOfPlace) (bind (chunkAt image newest 8 (chunkOf p)) (λ l. pageIn image l p map kind)) ≡ ok page
+          → branch t (refuse outOfPlace) (bind (chunkAt image store 8 (chunkOf p)) (λ l. pageIn image l p map kind)) ≡ ok page
           → (l : Place) × (pageIn image l p map kind ≡ ok page)
       go true e = refuse-ok outOfPlace page e
       go false e =
-          let h = bind-ok (chunkAt image newest 8 (chunkOf p)) (λ l. pageIn image l p map kind) page e in
+          let h = bind-ok (chunkAt image store 8 (chunkOf p)) (λ l. pageIn image l p map kind) page e in
           (h .0, h .2)
 
-  pub reader-below : ReadsBelow (2 ^ 48) (reader image newest map kind)
+  pub reader-below : ReadsBelow (2 ^ 48) (reader image store map kind)
   reader-below =
       record {
         leaves =

@@ -10,6 +10,7 @@ use Rattle.line.specs.declared.read.Fields.{Fields}
 use Rattle.line.specs.Fields.{nameBlock, readOf}
 use Rattle.item.specs.Item.{Spot}
 use Rattle.chunk.specs.declared.Chunk.{Chunk}
+use Rattle.opening.specs.declared.Store.{Store}
 use Rattle.chunk.specs.declared.Standing.{Standing}
 use Rattle.chunk.specs.declared.Standing.the-variants.{Stands, Nothing}
 use Rattle.chunk.specs.Names.{givenOf, valueOf}
@@ -52,12 +53,12 @@ module _ (image : List ℕ) (n : ℕ) (v : Spot) {c : Chunk} (e : standingBy ima
 
 -- ## After the metadata's answer
 -- an answer takes no more questions than there were
-pub sought-few : (image : List ℕ) (newest : Chunk) (map : ℕ) (kind : Kind) (root : ℕ) (k : Key) (q : ℕ) (f : Answer) →
-    IsAnswer image newest map kind root k q f → needOf f ≤ q
+pub sought-few : (image : List ℕ) (store : Store) (map : ℕ) (kind : Kind) (root : ℕ) (k : Key) (q : ℕ) (f : Answer) →
+    IsAnswer image store map kind root k q f → needOf f ≤ q
 unfolding IsAnswer
-sought-few image newest map kind root k q (answer.Found at len need) t = t .2
-sought-few image newest map kind root k q (answer.Absent need) t = t .0
-sought-few image newest map kind root k q (answer.Refused r) t = omega arith
+sought-few image store map kind root k q (answer.Found at len need) t = t .2
+sought-few image store map kind root k q (answer.Absent need) t = t .0
+sought-few image store map kind root k q (answer.Refused r) t = omega arith
 
 -- a location takes the questions of the answer
 pub location-need : (image : List ℕ) (n : ℕ) (f : Answer) {l : Place} {need : ℕ} → locationBy image n f ≡ location.At l need → need ≡ needOf f
@@ -70,25 +71,25 @@ location-need image n (answer.Found at len m) e = go (standingBy image n (record
     go Nothing e = cc
     go (Stands c) e = cc
 
-module _ (image : List ℕ) (newest : Chunk) (c q : ℕ) where
-  module _ (other : ¬ (c ≡ newest .id)) where
-    pub settled-tells : (f : Answer) → IsAnswer image newest 0 Text (newest .root .bits) (text (chunkKey c)) q f →
-        IsLocation image newest (suc q) c (settledLocation image c f)
+module _ (image : List ℕ) (store : Store) (c q : ℕ) where
+  module _ (other : ¬ (c ≡ store .newest .id)) where
+    pub settled-tells : (f : Answer) → IsAnswer image store 0 Text (store .newest .root .bits) (text (chunkKey c)) q f →
+        IsLocation image store (suc q) c (settledLocation image c f)
     unfolding IsAnswer IsLocation settledLocation locationBy
-    settled-tells (answer.Refused r) t = asked-refused (metadata image newest) other q t
-    settled-tells (answer.Absent need) t = placed-refused (metadata image newest) other (t .1) q (t .0) refl
+    settled-tells (answer.Refused r) t = asked-refused (metadata image store) other q t
+    settled-tells (answer.Absent need) t = placed-refused (metadata image store) other (t .1) q (t .0) refl
     settled-tells (answer.Found at len need) (e, is, h, g) = go (standingBy image c v) refl
       where
         v : Spot
         v = record { at = at; len = len }
 
-        go : (s : Standing) → standingBy image c v ≡ s → IsLocation image newest (suc q) c (oneMore (locationOf need (placedAt s)))
-        go Nothing i = placed-refused (metadata image newest) other g q h (rw (is, i))
-        go (Stands k) i = (omega arith, rw add-one (placed-known (metadata image newest) other g (rw (is, i))))
+        go : (s : Standing) → standingBy image c v ≡ s → IsLocation image store (suc q) c (oneMore (locationOf need (placedAt s)))
+        go Nothing i = placed-refused (metadata image store) other g q h (rw (is, i))
+        go (Stands k) i = (omega arith, rw add-one (placed-known (metadata image store) other g (rw (is, i))))
 
-  module _ {ws : List ℕ} (right : RightWords image newest ws) (few : q < 16) where
-    pub settled-right : (f : Answer) → IsLocation image newest q c (settledLocation image c f) →
-        RightWords image newest (settledWords c ws (settledLocation image c f))
+  module _ {ws : List ℕ} (right : RightWords image store ws) (few : q < 16) where
+    pub settled-right : (f : Answer) → IsLocation image store q c (settledLocation image c f) →
+        RightWords image store (settledWords c ws (settledLocation image c f))
     unfolding IsLocation settledLocation settledWords locationBy
     settled-right (answer.Refused r) t = right
     settled-right (answer.Absent need) t = right
@@ -97,9 +98,9 @@ module _ (image : List ℕ) (newest : Chunk) (c q : ℕ) where
         v : Spot
         v = record { at = at; len = len }
 
-        go : (s : Standing) → standingBy image c v ≡ s → IsLocation image newest q c (oneMore (locationOf need (placedAt s))) →
-            RightWords image newest (settledWords c ws (oneMore (locationOf need (placedAt s))))
+        go : (s : Standing) → standingBy image c v ≡ s → IsLocation image store q c (oneMore (locationOf need (placedAt s))) →
+            RightWords image store (settledWords c ws (oneMore (locationOf need (placedAt s))))
         go Nothing e t = right
         go (Stands k) e t =
             let held = standing-held image c v e in
-            remembered-right image newest right c (placeOf k) (need + 1) (held .0) (held .1) (omega (arith, t .0)) (t .1)
+            remembered-right image store right c (placeOf k) (need + 1) (held .0) (held .1) (omega (arith, t .0)) (t .1)

@@ -7,7 +7,7 @@ use mathlib.Core.Path.{_≡_}
 use mathlib.Core.List.{List, [], _∷_}
 use Rattle.key.specs.declared.Kind.{Kind}
 use Rattle.key.specs.Key.{Key}
-use Rattle.chunk.specs.declared.Chunk.{Chunk}
+use Rattle.opening.specs.declared.Store.{Store}
 use Rattle.content.specs.Content.{Entry}
 use Rattle.cursor.specs.declared.Walk.{Walk}
 use Rattle.cursor.specs.declared.Yield.the-variants as yields
@@ -15,9 +15,9 @@ use Rattle.cursor.specs.declared.Stepped.{Stepped}
 use Rattle.cursor.specs.Walk.{numbers, closed, doneNumber, yieldOf, settled, movedBy, movedIn}
 use Rattle.store.specs.Store.{reader, mapRoot}
 
-module _ (image : List ℕ) (newest : Chunk) (map : ℕ) (kind : Kind) where
+module _ (image : List ℕ) (store : Store) (map : ℕ) (kind : Kind) where
   unfoldable pub stepIn : Walk → Stepped
-  stepIn w = settled w (movedIn (mapRoot image newest map) (λ root. movedBy (reader image newest map kind) root (numbers w)))
+  stepIn w = settled w (movedIn (mapRoot image store map) (λ root. movedBy (reader image store map kind) root (numbers w)))
 
   abbrev pub Walks : Walk → List (Key × Entry) → Type 0
   Walks w [] = stepIn w ≡ record { walk = closed w doneNumber; got = yields.Done }

@@ -14,7 +14,7 @@ use Rattle.tree.specs.Asking.{mapEntries}
 use Rattle.tree.specs.Sound.{Sound}
 use Rattle.tree.specs.Walk.{Moved, mapNext, Yields}
 use Rattle.tree.specs.WalkTheorem.{Fits, next-fits, sound-yields}
-use Rattle.chunk.specs.declared.Chunk.{Chunk}
+use Rattle.opening.specs.declared.Store.{Store}
 use Rattle.content.specs.Content.{Entry}
 use Rattle.cursor.specs.declared.Walk.{Walk}
 use Rattle.cursor.specs.Walk.{zeros, fresh, formed, numbers, leading, settled, movedBy, movedIn}
@@ -32,22 +32,22 @@ numbers-leading i is h =
     let rest : List ℕ = replicate (16 - suc (length is)) 0 in
     rw (le-leb (suc (length is)) 16 h, drop-append-seam is rest, take-append-seam is rest, zeros-replicate (16 - suc (length is)))
 
-module _ (image : List ℕ) (newest : Chunk) (map : ℕ) (kind : Kind) (root : ℕ) (found : mapRoot image newest map ≡ ok root) where
-  step-fresh : stepIn image newest map kind fresh ≡ settled fresh (mapNext (reader image newest map kind) [] root)
+module _ (image : List ℕ) (store : Store) (map : ℕ) (kind : Kind) (root : ℕ) (found : mapRoot image store map ≡ ok root) where
+  step-fresh : stepIn image store map kind fresh ≡ settled fresh (mapNext (reader image store map kind) [] root)
   unfolding stepIn fresh formed
-  step-fresh = ap (λ o. settled fresh (movedIn o (λ p. movedBy (reader image newest map kind) p (numbers fresh)))) found
+  step-fresh = ap (λ o. settled fresh (movedIn o (λ p. movedBy (reader image store map kind) p (numbers fresh)))) found
 
   step-leading : (i : ℕ) (is : List ℕ) → suc (length is) ≤ 16
-      → stepIn image newest map kind (leading (i ∷ is)) ≡ settled (leading (i ∷ is)) (mapNext (reader image newest map kind) (i ∷ is) root)
+      → stepIn image store map kind (leading (i ∷ is)) ≡ settled (leading (i ∷ is)) (mapNext (reader image store map kind) (i ∷ is) root)
   unfolding stepIn
   step-leading i is h =
       let v = leading (i ∷ is) in
-      ap (λ o. settled v (movedIn o (λ p. movedBy (reader image newest map kind) p (numbers v)))) found
-      ∙ ap (λ o. settled v (movedBy (reader image newest map kind) root o)) (numbers-leading i is h)
+      ap (λ o. settled v (movedIn o (λ p. movedBy (reader image store map kind) p (numbers v)))) found
+      ∙ ap (λ o. settled v (movedBy (reader image store map kind) root o)) (numbers-leading i is h)
 
   -- from a state whose step is m
-  yields-walks : (w : Walk) (m : Moved (Key × Entry)) (es : List (Key × Entry)) → stepIn image newest map kind w ≡ settled w m → Fits m
-      → Yields (reader image newest map kind) root m es → Walks image newest map kind w es
+  yields-walks : (w : Walk) (m : Moved (Key × Entry)) (es : List (Key × Entry)) → stepIn image store map kind w ≡ settled w m → Fits m
+      → Yields (reader image store map kind) root m es → Walks image store map kind w es
   unfolding settled
   yields-walks w m [] s h y = s ∙ ap (settled w) y
   yields-walks w m (e ∷ es) s h y =
@@ -55,14 +55,14 @@ module _ (image : List ℕ) (newest : Chunk) (map : ℕ) (kind : Kind) (root : �
       let is = y .1 in
       let fits : suc (length is) ≤ 16 = rw (y .2) at h in
       let v = leading (i ∷ is) in
-      let then = mapNext (reader image newest map kind) (i ∷ is) root in (
+      let then = mapNext (reader image store map kind) (i ∷ is) root in (
         v,
         s ∙ ap (settled w) (y .2),
-        yields-walks v then es (step-leading i is fits) (next-fits (reader image newest map kind) (i ∷ is) root) (y .3),
+        yields-walks v then es (step-leading i is fits) (next-fits (reader image store map kind) (i ∷ is) root) (y .3),
       )
 
-  pub sound-walks : Sound compareKeys (reader image newest map kind) root
-      → Walks image newest map kind fresh (mapEntries (reader image newest map kind) root)
+  pub sound-walks : Sound compareKeys (reader image store map kind) root
+      → Walks image store map kind fresh (mapEntries (reader image store map kind) root)
   sound-walks s =
-      yields-walks fresh (mapNext (reader image newest map kind) [] root) (mapEntries (reader image newest map kind) root) step-fresh
-      (next-fits (reader image newest map kind) [] root) (sound-yields compareKeys (reader image newest map kind) root s)
+      yields-walks fresh (mapNext (reader image store map kind) [] root) (mapEntries (reader image store map kind) root) step-fresh
+      (next-fits (reader image store map kind) [] root) (sound-yields compareKeys (reader image store map kind) root s)

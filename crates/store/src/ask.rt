@@ -10,11 +10,11 @@ use super::read::root_at;
 use super::room::SMALL;
 use super::room::few_words;
 use super::room::many_words;
-use chunk::Chunk;
 use key::Kind;
 use metadata::Root;
 use metadata::Value;
 use metadata::value_by;
+use opening::Store;
 use page::Judged;
 use position::Position;
 ghost use mathlib.Core.Path.{_≡_};
@@ -25,11 +25,11 @@ ghost use Rattle.store.specs.Memory.{RightWords};
 ghost use Rattle.store.specs.Asking.{lookupIn, indexIn, countIn, valueOf, fetchedOf, countedOf};
 
 fn lookup_with(image: &[u8], memory: &mut [u64], m: Map, key: &[u8]) -> Value
-    requires { ⌜ RightWords (now image) (m .newest) (now memory) ⌝ }
-    ensures { λ r. ⌜ r ≡ valueOf (lookupIn (now (image .entry)) (m .newest) (m .id) (m .kind) (keyOf (m .kind) (now (key .entry)))) ⌝ }
+    requires { ⌜ RightWords (now image) (m .store) (now memory) ⌝ }
+    ensures { λ r. ⌜ r ≡ valueOf (lookupIn (now (image .entry)) (m .store) (m .id) (m .kind) (keyOf (m .kind) (now (key .entry)))) ⌝ }
 {
-    let newest = m.newest;
-    let r = root_at(image, newest, memory, m.id);
+    let store = m.store;
+    let r = root_at(image, store, memory, m.id);
     match r {
         Root::Refused(r) => Value::Refused(r),
         Root::At(p) => {
@@ -40,11 +40,11 @@ fn lookup_with(image: &[u8], memory: &mut [u64], m: Map, key: &[u8]) -> Value
 }
 
 // The value of `key` in the map.
-pub fn lookup(image: &[u8], newest: Chunk, map: u32, kind: Kind, key: &[u8]) -> Value
-    ensures { λ r. ⌜ r ≡ valueOf (lookupIn (now (image .entry)) newest map kind (keyOf kind (now (key .entry)))) ⌝ }
+pub fn lookup(image: &[u8], store: Store, map: u32, kind: Kind, key: &[u8]) -> Value
+    ensures { λ r. ⌜ r ≡ valueOf (lookupIn (now (image .entry)) store map kind (keyOf kind (now (key .entry)))) ⌝ }
 {
     let m = Map {
-        newest,
+        store,
         id: map,
         kind,
     };
@@ -57,11 +57,11 @@ pub fn lookup(image: &[u8], newest: Chunk, map: u32, kind: Kind, key: &[u8]) -> 
 }
 
 fn index_with(image: &[u8], memory: &mut [u64], m: Map, index: u64) -> Fetched
-    requires { ⌜ RightWords (now image) (m .newest) (now memory) ⌝ }
-    ensures { λ r. ⌜ r ≡ fetchedOf (indexIn (now (image .entry)) (m .newest) (m .id) (m .kind) index) ⌝ }
+    requires { ⌜ RightWords (now image) (m .store) (now memory) ⌝ }
+    ensures { λ r. ⌜ r ≡ fetchedOf (indexIn (now (image .entry)) (m .store) (m .id) (m .kind) index) ⌝ }
 {
-    let newest = m.newest;
-    let r = root_at(image, newest, memory, m.id);
+    let store = m.store;
+    let r = root_at(image, store, memory, m.id);
     match r {
         Root::Refused(r) => Fetched::Refused(r),
         Root::At(p) => fetch_from(image, memory, m, p, index),
@@ -69,11 +69,11 @@ fn index_with(image: &[u8], memory: &mut [u64], m: Map, index: u64) -> Fetched
 }
 
 // The entry numbered `index` of the map, from 0.
-pub fn index(image: &[u8], newest: Chunk, map: u32, kind: Kind, index: u64) -> Fetched
-    ensures { λ r. ⌜ r ≡ fetchedOf (indexIn (now (image .entry)) newest map kind index) ⌝ }
+pub fn index(image: &[u8], store: Store, map: u32, kind: Kind, index: u64) -> Fetched
+    ensures { λ r. ⌜ r ≡ fetchedOf (indexIn (now (image .entry)) store map kind index) ⌝ }
 {
     let m = Map {
-        newest,
+        store,
         id: map,
         kind,
     };
@@ -87,7 +87,7 @@ pub fn index(image: &[u8], newest: Chunk, map: u32, kind: Kind, index: u64) -> F
 
 // How many entries the page at the root has or records.
 fn count_from(image: &[u8], memory: &mut [u64], m: Map, root: Position) -> Counted
-    requires { ⌜ RightWords (now image) (m .newest) (now memory) ⌝ }
+    requires { ⌜ RightWords (now image) (m .store) (now memory) ⌝ }
     ensures { λ r. ⌜ r ≡ countedOf (mapCount (pagesOf (now (image .entry)) m) (root .bits)) ⌝ }
 {
     if root.is_empty() {
@@ -114,16 +114,16 @@ fn count_from(image: &[u8], memory: &mut [u64], m: Map, root: Position) -> Count
 }
 
 // How many entries the map has, by its root.
-pub fn count(image: &[u8], newest: Chunk, map: u32, kind: Kind) -> Counted
-    ensures { λ r. ⌜ r ≡ countedOf (countIn (now (image .entry)) newest map kind) ⌝ }
+pub fn count(image: &[u8], store: Store, map: u32, kind: Kind) -> Counted
+    ensures { λ r. ⌜ r ≡ countedOf (countIn (now (image .entry)) store map kind) ⌝ }
 {
     let m = Map {
-        newest,
+        store,
         id: map,
         kind,
     };
     let mut memory = many_words();
-    let r = root_at(image, newest, &mut memory, map);
+    let r = root_at(image, store, &mut memory, map);
     match r {
         Root::Refused(r) => Counted::Refused(r),
         Root::At(p) => count_from(image, &mut memory, m, p),

@@ -18,8 +18,8 @@ ghost use Rattle.store.specs.WalkWays.{EndsDown, EndsLeft};
 // The way down from the root by the state's numbers: the entry after the one that they lead to,
 // or the child under which it is the leftmost.
 pub(crate) fn down_by(image: &[u8], memory: &mut [u64], m: Map, root: Position, w: Walk) -> Down
-    requires { ⌜ (1 ≤ w .depth) × (w .depth ≤ 16) × (w .depth ≤ length (w .places)) × (1 ≤ root .bits) × RightWords (now image) (m .newest) (now memory) ⌝ }
-    ensures { λ r. ⌜ RightWords (now (image .entry)) (m .newest) (now (memory .exit)) × EndsDown (now (image .entry)) (m .newest) (m .id) (m .kind) (take (w .depth) (w .places)) (root .bits) r ⌝ }
+    requires { ⌜ (1 ≤ w .depth) × (w .depth ≤ 16) × (w .depth ≤ length (w .places)) × (1 ≤ root .bits) × RightWords (now image) (m .store) (now memory) ⌝ }
+    ensures { λ r. ⌜ RightWords (now (image .entry)) (m .store) (now (memory .exit)) × EndsDown (now (image .entry)) (m .store) (m .id) (m .kind) (take (w .depth) (w .places)) (root .bits) r ⌝ }
 {
     let kind = m.kind;
     let places = w.places;
@@ -67,8 +67,8 @@ pub(crate) fn leftmost_from(
     p: Position,
     level: u32,
 ) -> Leftmost
-    requires { ⌜ (level ≤ 16) × RightWords (now image) (m .newest) (now memory) ⌝ }
-    ensures { λ r. ⌜ RightWords (now (image .entry)) (m .newest) (now (memory .exit)) × EndsLeft (now (image .entry)) (m .newest) (m .id) (m .kind) level (p .bits) r ⌝ }
+    requires { ⌜ (level ≤ 16) × RightWords (now image) (m .store) (now memory) ⌝ }
+    ensures { λ r. ⌜ RightWords (now (image .entry)) (m .store) (now (memory .exit)) × EndsLeft (now (image .entry)) (m .store) (m .id) (m .kind) level (p .bits) r ⌝ }
 {
     let kind = m.kind;
     let mut q = p;

@@ -6,9 +6,9 @@ use super::read::root_at;
 use super::room::SMALL;
 use super::room::few_words;
 use super::room::many_words;
-use chunk::Chunk;
 use key::Kind;
 use metadata::Root;
+use opening::Store;
 use position::Position;
 use refusal::Refusal;
 use rising::Bound;
@@ -70,8 +70,8 @@ fn examine_page(
     top: bool,
     levels: u32,
 ) -> Examined
-    requires { ⌜ (levels ≤ 16) × RightWords (now image) (m .newest) (now memory) ⌝ }
-    ensures { λ r. ⌜ RightWords (now (image .entry)) (m .newest) (now (memory .exit)) × (r ≡ examinedUnder (now (image .entry)) m levels top span (p .bits)) ⌝ }
+    requires { ⌜ (levels ≤ 16) × RightWords (now image) (m .store) (now memory) ⌝ }
+    ensures { λ r. ⌜ RightWords (now (image .entry)) (m .store) (now (memory .exit)) × (r ≡ examinedUnder (now (image .entry)) m levels top span (p .bits)) ⌝ }
 {
     if levels == 0 {
         return Examined::Refused(Refusal::new(Refusal::TOO_DEEP));
@@ -97,8 +97,8 @@ fn examine_children(
     span: Span,
     levels: u32,
 ) -> Examined
-    requires { ⌜ (levels < 16) × RightWords (now image) (m .newest) (now memory) × WholePage (now image) (m .kind) page ⌝ }
-    ensures { λ r. ⌜ RightWords (now (image .entry)) (m .newest) (now (memory .exit)) × (r ≡ examinedChildren (now (image .entry)) m levels span page) ⌝ }
+    requires { ⌜ (levels < 16) × RightWords (now image) (m .store) (now memory) × WholePage (now image) (m .kind) page ⌝ }
+    ensures { λ r. ⌜ RightWords (now (image .entry)) (m .store) (now (memory .exit)) × (r ≡ examinedChildren (now (image .entry)) m levels span page) ⌝ }
 {
     let kind = m.kind;
     let mut r = Report::none();
@@ -129,11 +129,11 @@ fn examine_children(
 }
 
 fn examine_with(image: &[u8], memory: &mut [u64], m: Map) -> Examined
-    requires { ⌜ RightWords (now image) (m .newest) (now memory) ⌝ }
-    ensures { λ r. ⌜ r ≡ examinedOf (examineIn (now (image .entry)) (m .newest) (m .id) (m .kind)) ⌝ }
+    requires { ⌜ RightWords (now image) (m .store) (now memory) ⌝ }
+    ensures { λ r. ⌜ r ≡ examinedOf (examineIn (now (image .entry)) (m .store) (m .id) (m .kind)) ⌝ }
 {
-    let newest = m.newest;
-    let r = root_at(image, newest, memory, m.id);
+    let store = m.store;
+    let r = root_at(image, store, memory, m.id);
     match r {
         Root::Refused(r) => Examined::Refused(r),
         Root::At(p) => {
@@ -150,11 +150,11 @@ fn examine_with(image: &[u8], memory: &mut [u64], m: Map) -> Examined
 }
 
 // The examination of a map by its id and kind.
-pub fn examine(image: &[u8], newest: Chunk, map: u32, kind: Kind) -> Examined
-    ensures { λ r. ⌜ r ≡ examinedOf (examineIn (now (image .entry)) newest map kind) ⌝ }
+pub fn examine(image: &[u8], store: Store, map: u32, kind: Kind) -> Examined
+    ensures { λ r. ⌜ r ≡ examinedOf (examineIn (now (image .entry)) store map kind) ⌝ }
 {
     let m = Map {
-        newest,
+        store,
         id: map,
         kind,
     };

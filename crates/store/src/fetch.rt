@@ -66,7 +66,7 @@ pub(crate) fn fetch_from(
     root: Position,
     index: u64,
 ) -> Fetched
-    requires { ⌜ RightWords (now image) (m .newest) (now memory) ⌝ }
+    requires { ⌜ RightWords (now image) (m .store) (now memory) ⌝ }
     ensures { λ r. ⌜ r ≡ fetchedOf (mapIndex (pagesOf (now (image .entry)) m) index (root .bits)) ⌝ }
 {
     if root.is_empty() {

@@ -1,5 +1,4 @@
-// The store of an image and its newest chunk: where chunks are, a map's id and root, and what is
-// asked of a map. Locating a chunk asks the metadata, whose pages stand in chunks that may have to be
+// A store that is open: where chunks are, a map's id and root, and what is asked of a map. Locating a chunk asks the metadata, whose pages stand in chunks that may have to be
 // located first.
 mod ask;
 mod down;
@@ -14,7 +13,6 @@ mod walking;
 pub use ask::count;
 pub use ask::index;
 pub use ask::lookup;
-use chunk::Chunk;
 pub use examining::examine;
 use key::Kind;
 use locate::descend;
@@ -26,6 +24,8 @@ use metadata::Root;
 use metadata::id_by;
 use metadata::located_by;
 use metadata::name_key;
+use opening::Store;
+use read::asked_root;
 use read::root_at;
 use refusal::Refusal;
 use room::many_words;
@@ -34,20 +34,20 @@ ghost use mathlib.Core.Path.{_≡_};
 ghost use Rattle.metadata.specs.Answers.{placeSaid, idSaid, rootSaid};
 ghost use Rattle.store.specs.Store.{metadataMap, chunkAt, namedMap, mapRoot};
 
-// A map that is asked: by the newest chunk of its store, its id and its kind.
+// A map that is asked: by its store, its id and its kind.
 pub struct Map {
-    pub newest: Chunk,
+    pub store: Store,
     pub id: u32,
     pub kind: Kind,
 }
 
 impl Map {
     // "Metadata is map 0, kind 1".
-    pub(crate) fn metadata(newest: Chunk) -> Map
-        ensures { λ r. ⌜ r ≡ metadataMap newest ⌝ }
+    pub(crate) fn metadata(store: Store) -> Map
+        ensures { λ r. ⌜ r ≡ metadataMap store ⌝ }
     {
         Map {
-            newest,
+            store,
             id: 0,
             kind: Kind::Text,
         }
@@ -74,16 +74,16 @@ pub enum Counted {
 pub const QUESTIONS: u32 = 8;
 
 // Where chunk `chunk` is.
-pub fn chunk_place(image: &[u8], newest: Chunk, chunk: u32) -> Located
-    ensures { λ r. ⌜ placeSaid r ≡ chunkAt (now (image .entry)) newest 8 chunk ⌝ }
+pub fn chunk_place(image: &[u8], store: Store, chunk: u32) -> Located
+    ensures { λ r. ⌜ placeSaid r ≡ chunkAt (now (image .entry)) store 8 chunk ⌝ }
 {
     let mut memory = many_words();
-    located_by(locate(image, newest, &mut memory, chunk, QUESTIONS))
+    located_by(locate(image, store, &mut memory, chunk, QUESTIONS))
 }
 
 // The id of the map that has a name.
-pub fn map_id(image: &[u8], newest: Chunk, name: &[u8]) -> Id
-    ensures { λ r. ⌜ idSaid r ≡ namedMap (now (image .entry)) newest (now (name .entry)) ⌝ }
+pub fn map_id(image: &[u8], store: Store, name: &[u8]) -> Id
+    ensures { λ r. ⌜ idSaid r ≡ namedMap (now (image .entry)) store (now (name .entry)) ⌝ }
 {
     if NAME < name.len() {
         return Id::Refused(Refusal::new(Refusal::ARGUMENT));
@@ -91,17 +91,17 @@ pub fn map_id(image: &[u8], newest: Chunk, name: &[u8]) -> Id
     let key = name_key(name);
     let bytes = key.bytes;
     let n = key.len;
-    let m = Map::metadata(newest);
-    let root = newest.root;
+    let m = Map::metadata(store);
+    let root = asked_root(store);
     let mut memory = many_words();
     let f = descend(image, &mut memory, m, root, &bytes[..n], QUESTIONS);
     id_by(image, f)
 }
 
 // The root of the map that has an id; the metadata is map 0.
-pub fn map_root(image: &[u8], newest: Chunk, map: u32) -> Root
-    ensures { λ r. ⌜ rootSaid r ≡ mapRoot (now (image .entry)) newest map ⌝ }
+pub fn map_root(image: &[u8], store: Store, map: u32) -> Root
+    ensures { λ r. ⌜ rootSaid r ≡ mapRoot (now (image .entry)) store map ⌝ }
 {
     let mut memory = many_words();
-    root_at(image, newest, &mut memory, map)
+    root_at(image, store, &mut memory, map)
 }

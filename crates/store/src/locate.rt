@@ -2,7 +2,6 @@
 // that the caller lends; `q` is how many questions may still be opened.
 use super::Map;
 use super::settle::settle;
-use chunk::Chunk;
 use memory::Recalled;
 use metadata::Advance;
 use metadata::Answer;
@@ -10,6 +9,7 @@ use metadata::Location;
 use metadata::advance_at;
 use metadata::chunk_key;
 use metadata::place_of;
+use opening::Store;
 use position::Position;
 use refusal::Refusal;
 ghost use Prim.Native.Nat.{_≤_};
@@ -18,10 +18,11 @@ ghost use Rattle.store.specs.Memory.{RightWords, IsLocation, IsAnswerIn}
 
 // Where chunk `c` is. The newest is known, others may be remembered; any other is asked for in the
 // metadata, which is one more open question.
-pub(crate) fn locate(image: &[u8], newest: Chunk, memory: &mut [u64], c: u32, q: u32) -> Location
-    requires { ⌜ (q ≤ 8) × RightWords (now image) newest (now memory) ⌝ }
-    ensures { λ r. ⌜ RightWords (now (image .entry)) newest (now (memory .exit)) × IsLocation (now (image .entry)) newest q c r ⌝ }
+pub(crate) fn locate(image: &[u8], store: Store, memory: &mut [u64], c: u32, q: u32) -> Location
+    requires { ⌜ (q ≤ 8) × RightWords (now image) store (now memory) ⌝ }
+    ensures { λ r. ⌜ RightWords (now (image .entry)) store (now (memory .exit)) × IsLocation (now (image .entry)) store q c r ⌝ }
 {
+    let newest = store.newest;
     if c == newest.id {
         return Location::At {
             place: place_of(newest),
@@ -41,7 +42,7 @@ pub(crate) fn locate(image: &[u8], newest: Chunk, memory: &mut [u64], c: u32, q:
     let key = chunk_key(c);
     let bytes = key.bytes;
     let n = key.len;
-    let m = Map::metadata(newest);
+    let m = Map::metadata(store);
     let root = newest.root;
     let f = descend(image, memory, m, root, &bytes[..n], q - 1);
     settle(image, memory, c, f)
@@ -56,13 +57,13 @@ pub(crate) fn descend(
     key: &[u8],
     q: u32,
 ) -> Answer
-    requires { ⌜ (q ≤ 8) × RightWords (now image) (m .newest) (now memory) ⌝ }
-    ensures { λ r. ⌜ RightWords (now (image .entry)) (m .newest) (now (memory .exit)) × IsAnswerIn (now (image .entry)) m root (now (key .entry)) q r ⌝ }
+    requires { ⌜ (q ≤ 8) × RightWords (now image) (m .store) (now memory) ⌝ }
+    ensures { λ r. ⌜ RightWords (now (image .entry)) (m .store) (now (memory .exit)) × IsAnswerIn (now (image .entry)) m root (now (key .entry)) q r ⌝ }
 {
     if root.is_empty() {
         return Answer::Absent { need: 0 };
     }
-    let newest = m.newest;
+    let store = m.store;
     let kind = m.kind;
     let mut p = root;
     let mut need: u32 = 0;
@@ -71,7 +72,7 @@ pub(crate) fn descend(
         if p.is_empty() {
             return Answer::Refused(Refusal::new(Refusal::PLACE));
         }
-        let l = locate(image, newest, memory, p.chunk(), q);
+        let l = locate(image, store, memory, p.chunk(), q);
         let a = advance_at(image, l, need, p, m.id, kind, key);
         match a {
             Advance::To { position, need: n } => {

@@ -6,7 +6,6 @@ use super::read::root_at;
 use super::room::SMALL;
 use super::room::few_words;
 use super::room::many_words;
-use chunk::Chunk;
 use cursor::Down;
 use cursor::Stepped;
 use cursor::Walk;
@@ -16,6 +15,7 @@ use cursor::left_step;
 use cursor::numbered;
 use key::Kind;
 use metadata::Root;
+use opening::Store;
 use position::Position;
 use refusal::Refusal;
 ghost use mathlib.Core.Path.{_≡_};
@@ -26,7 +26,7 @@ ghost use Rattle.store.specs.Walk.{stepIn};
 
 // The step from a state in the map whose root is given.
 fn advance_from(image: &[u8], memory: &mut [u64], m: Map, root: Position, w: Walk) -> Stepped
-    requires { ⌜ RightWords (now image) (m .newest) (now memory) ⌝ }
+    requires { ⌜ RightWords (now image) (m .store) (now memory) ⌝ }
     ensures { λ r. ⌜ r ≡ settled w (movedBy (pagesOf (now (image .entry)) m) (root .bits) (numbers w)) ⌝ }
 {
     if is_formed(w) {} else {
@@ -67,11 +67,11 @@ fn advance_from(image: &[u8], memory: &mut [u64], m: Map, root: Position, w: Wal
 }
 
 fn advance_with(image: &[u8], memory: &mut [u64], m: Map, w: Walk) -> Stepped
-    requires { ⌜ RightWords (now image) (m .newest) (now memory) ⌝ }
-    ensures { λ r. ⌜ r ≡ stepIn (now (image .entry)) (m .newest) (m .id) (m .kind) w ⌝ }
+    requires { ⌜ RightWords (now image) (m .store) (now memory) ⌝ }
+    ensures { λ r. ⌜ r ≡ stepIn (now (image .entry)) (m .store) (m .id) (m .kind) w ⌝ }
 {
-    let newest = m.newest;
-    let r = root_at(image, newest, memory, m.id);
+    let store = m.store;
+    let r = root_at(image, store, memory, m.id);
     match r {
         Root::Refused(r) => w.refused(r),
         Root::At(p) => advance_from(image, memory, m, p, w),
@@ -79,11 +79,11 @@ fn advance_with(image: &[u8], memory: &mut [u64], m: Map, w: Walk) -> Stepped
 }
 
 // One step of the walk of a map, by its id and kind.
-pub fn advance(image: &[u8], newest: Chunk, map: u32, kind: Kind, w: Walk) -> Stepped
-    ensures { λ r. ⌜ r ≡ stepIn (now (image .entry)) newest map kind w ⌝ }
+pub fn advance(image: &[u8], store: Store, map: u32, kind: Kind, w: Walk) -> Stepped
+    ensures { λ r. ⌜ r ≡ stepIn (now (image .entry)) store map kind w ⌝ }
 {
     let m = Map {
-        newest,
+        store,
         id: map,
         kind,
     };

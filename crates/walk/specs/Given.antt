@@ -11,7 +11,7 @@ use Rattle.cursor.specs.declared.Yield.the-variants as yields
 use Rattle.cursor.specs.declared.Stepped.{Stepped}
 use Rattle.cursor.specs.Walk.{numbers, movedBy, movedIn}
 use Rattle.store.specs.Store.{reader, mapRoot}
-use Rattle.map.specs.Map.{openedStore}
+use Rattle.viewing.specs.Viewing.{openedStore}
 use Rattle.walk.specs.declared.Next.{Next}
 use Rattle.walk.specs.declared.Next.the-variants as next
 use Rattle.walk.specs.declared.Step.{Step}
@@ -30,4 +30,4 @@ stepBy image kind s = record { walk = s .walk; next = nextBy image kind (s .got)
 -- what is next in a map that may be asked for
 unfoldable pub movedAfter : List ℕ → ℕ → Kind → Walk → Moved (Key × Entry)
 movedAfter image id kind w =
-    movedIn (openedStore image) (λ c. movedIn (mapRoot image c id) (λ root. movedBy (reader image c id kind) root (numbers w)))
+    movedIn (openedStore image) (λ s. movedIn (mapRoot image s id) (λ root. movedBy (reader image s id kind) root (numbers w)))

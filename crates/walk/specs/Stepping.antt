@@ -19,7 +19,8 @@ use Rattle.content.specs.Content.{Entry}
 use Rattle.cursor.specs.declared.Walk.{Walk}
 use Rattle.cursor.specs.Walk.{numbers, closed, doneNumber, stateAfter, movedBy, movedIn}
 use Rattle.store.specs.Store.{reader, mapRoot}
-use Rattle.map.specs.Map.{askedMap, openedStore}
+use Rattle.viewing.specs.Viewing.{openedStore}
+use Rattle.map.specs.Map.{askedMap}
 use Rattle.walk.specs.declared.Next.{Next}
 use Rattle.walk.specs.declared.Next.the-variants as next
 use Rattle.walk.specs.declared.Step.{Step}
@@ -45,8 +46,8 @@ module _ (image : List ℕ) (map kind : ℕ) where
   unfoldable pub movedOf : Walk → Moved (Key × Entry)
   movedOf w =
       movedIn (askedMap map kind) (λ m.
-      movedIn (openedStore image) (λ c.
-      movedIn (mapRoot image c (m .0)) (λ root. movedBy (reader image c (m .0) (m .1)) root (numbers w))))
+      movedIn (openedStore image) (λ s.
+      movedIn (mapRoot image s (m .0)) (λ root. movedBy (reader image s (m .0) (m .1)) root (numbers w))))
 
   -- "is given again at each later step before anything is judged, the state unchanged"
   abbrev pub again : Walk → Option Next → Step

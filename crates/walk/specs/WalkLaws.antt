@@ -13,9 +13,7 @@ use Rattle.key.specs.declared.Kind.{Kind}
 use Rattle.key.specs.Key.{Key, number, text}
 use Rattle.tree.specs.Walk.{Moved, yield, over, stop}
 use Rattle.tree.specs.WalkHoldsLaws.{Holds}
-use Rattle.chunk.specs.declared.Chunk.{Chunk}
-use Rattle.opening.specs.declared.Opened.the-variants as opened
-use Rattle.opening.specs.Opening.{opened}
+use Rattle.opening.specs.declared.Store.{Store}
 use Rattle.content.specs.Content.{Entry, keyIn}
 use Rattle.content.specs.InsideLaws.{EntryIn}
 use Rattle.cursor.specs.declared.Walk.{Walk}
@@ -26,9 +24,10 @@ use Rattle.cursor.specs.Walk.{numbers, closed, doneNumber, movedBy, movedIn, se
 use Rattle.store.specs.Store.{reader, mapRoot}
 use Rattle.store.specs.AskLaws.{next-in}
 use Rattle.store.specs.Walk.{stepIn}
+use Rattle.viewing.specs.Viewing.{openedStore}
 use Rattle.map.specs.declared.entry.Item.{Item}
 use Rattle.map.specs.declared.entry.Item.the-variants as item
-use Rattle.map.specs.Map.{askedMap, openedStore, entryItem, itemAt}
+use Rattle.map.specs.Map.{askedMap, entryItem, itemAt}
 use Rattle.walk.specs.declared.Next.{Next}
 use Rattle.walk.specs.declared.Next.the-variants as next
 use Rattle.walk.specs.declared.Step.{Step}
@@ -82,20 +81,20 @@ step-keyed image kind w over h = refl
 step-keyed image kind w (stop r) h = refl
 
 module _ (image : List ℕ) (id : ℕ) (kind : Kind) (w : Walk) where
-  pub after-shut : {r : Refusal} → opened image ≡ opened.Refused r → given w (stop r) ≡ given w (movedAfter image id kind w)
-  unfolding movedAfter openedStore
+  pub after-shut : {r : Refusal} → openedStore image ≡ refuse r → given w (stop r) ≡ given w (movedAfter image id kind w)
+  unfolding movedAfter
   after-shut e = rw e
 
-  pub after-open : {c : Chunk} → opened image ≡ opened.Newest c → {s : Stepped} → s ≡ stepIn image c id kind w
+  pub after-open : {o : Store} → openedStore image ≡ ok o → {s : Stepped} → s ≡ stepIn image o id kind w
       → stepBy image kind s ≡ given w (movedAfter image id kind w)
-  unfolding movedAfter openedStore stepIn
-  after-open {c} e f = rw (e, f) (step-keyed image kind w _ (go (mapRoot image c id)))
+  unfolding movedAfter stepIn
+  after-open {o} e f = rw (e, f) (step-keyed image kind w _ (go (mapRoot image o id)))
     where
-      by : (root : ℕ) (o : Option (List ℕ)) → Holds (EntryIn image kind) (movedBy (reader image c id kind) root o)
+      by : (root : ℕ) (n : Option (List ℕ)) → Holds (EntryIn image kind) (movedBy (reader image o id kind) root n)
       by root none = tt
-      by root (some is) = next-in image c id kind is root
+      by root (some is) = next-in image o id kind is root
 
-      go : (o : Outcome ℕ) → Holds (EntryIn image kind) (movedIn o (λ root. movedBy (reader image c id kind) root (numbers w)))
+      go : (r : Outcome ℕ) → Holds (EntryIn image kind) (movedIn r (λ root. movedBy (reader image o id kind) root (numbers w)))
       go (refuse r) = tt
       go (ok root) = by root (numbers w)
 

@@ -6,8 +6,8 @@ use cursor::Yield;
 use key::Kind;
 use map::Item;
 use map::Target;
-use opening::Opened;
 use refusal::Refusal;
+use viewing::Viewed;
 ghost use mathlib.Core.Path.{_≡_};
 ghost use Rattle.text.specs.Text.{within};
 ghost use Rattle.tree.specs.Walk.{stop};
@@ -110,10 +110,10 @@ fn refused(w: Walk, r: Refusal) -> Step
 fn advance_in(image: &[u8], id: u32, kind: Kind, w: Walk) -> Step
     ensures { λ r. ⌜ r ≡ given w (movedAfter (now (image .entry)) id kind w) ⌝ }
 {
-    let o = opening::open(image);
+    let o = viewing::open(image);
     match o {
-        Opened::Refused(r) => refused(w, r),
-        Opened::Newest(c) => step_by(image, kind, store::advance(image, c, id, kind, w)),
+        Viewed::Refused(r) => refused(w, r),
+        Viewed::Is(s) => step_by(image, kind, store::advance(image, s, id, kind, w)),
     }
 }
 

@@ -4,10 +4,10 @@ use Rattle.listing.proofs.list_entries.Statement.{statement}
 use Rattle.listing.proofs.list_entries.Tie as tie
 
 abbrev Inv-loop : tie.InvT-loop
-Inv-loop image newest id entries left₀ w₀ left w = left ≤ entries
+Inv-loop image s id entries left₀ w₀ left w = left ≤ entries
 
 abbrev μ-loop : tie.MeasureT-loop
-μ-loop image newest id entries left₀ w₀ left w = left
+μ-loop image s id entries left₀ w₀ left w = left
 
 pub list-entries-spec : {M : Type 1} → statement M
 list-entries-spec =

@@ -15,7 +15,7 @@ returns : tie.Need-returns
 returns c =
     let a = c .before .before .before .before .before .before .args in
     let l = c .before .before .locate in
-    ap placeSaid (c .located-by .ensures) ∙ place-told (now (a .image)) (a .newest) (a .chunk) (l .result) (l .ensures .1)
+    ap placeSaid (c .located-by .ensures) ∙ place-told (now (a .image)) (a .store) (a .chunk) (l .result) (l .ensures .1)
 
 pub chunk-place-spec : {M : Type 1} → statement M
 chunk-place-spec =

@@ -15,7 +15,7 @@ use Rattle.store.proofs.map_id.Tie as tie
 returns : tie.Need-returns
 returns c =
     let a = c .before .before .before .before .args in
-    ap refuse (c .new .ensures) ∙ sym (name-long (now (a .image)) (a .newest) (now (a .name)) (c .before .if1 .taken))
+    ap refuse (c .new .ensures) ∙ sym (name-long (now (a .image)) (a .store) (now (a .name)) (c .before .if1 .taken))
 
 array-share-prefix-bytes : tie.Need-array-share-prefix-bytes
 array-share-prefix-bytes c = rw (c .before .before .before .before .before .name-key .ensures) (padded-inside 1005 (nameKey (take 1000 (now (c .before .before .before .before .before .before .before .before .before .args .name)))))
@@ -30,10 +30,10 @@ returns-2 : tie.Need-returns-2
 returns-2 c =
     let a = c .before .before .before .before .before .before .before .before .before .before .before .before .before .args in
     let d = c .before .before .descend in
-    let e = rw (c .before .before .before .before .before .before .before .metadata .ensures) at (d .ensures) in
+    let e = rw (c .before .before .before .before .before .before .before .metadata .ensures, c .before .before .before .before .before .before .asked-root .ensures) at (d .ensures) in
     let short = c .before .before .before .before .before .before .before .before .before .before .if1 .left in
     let whole : take 1000 (now (a .name)) ≡ now (a .name) = take-all 1000 (now (a .name)) short in
-    c .id-by .ensures ∙ id-sought (now (a .image)) (a .newest) _ (d .result) (e .1) (now (a .name)) short (rw (c .before .before .before .before .before .before .before .before .before .name-key .ensures, whole) (padded-text 1005 (nameKey (now (a .name)))))
+    c .id-by .ensures ∙ id-sought (now (a .image)) (a .store) _ (d .result) (e .1) (now (a .name)) short (rw (c .before .before .before .before .before .before .before .before .before .name-key .ensures, whole) (padded-text 1005 (nameKey (now (a .name)))))
 
 pub map-id-spec : {M : Type 1} → statement M
 map-id-spec =
@@ -41,6 +41,7 @@ map-id-spec =
     (tie.spec
     (λ c κs. search needs)
     returns
+    (λ c κs. search needs)
     (λ c κs. search needs)
     (λ c κs. search needs)
     (λ c κs. search needs)

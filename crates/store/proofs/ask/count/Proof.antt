@@ -16,13 +16,13 @@ returns : tie.Need-returns
 returns c =
     let a = c .before .before .before .before .before .before .before .before .args in
     let r = c .before .before .before .before .root-at in
-    count-rootless (now (a .image)) (a .newest) (a .map) (a .kind) (r .result) (r .ensures .1) (c .before .r .given .1)
+    count-rootless (now (a .image)) (a .store) (a .map) (a .kind) (r .result) (r .ensures .1) (c .before .r .given .1)
 
 returns-2 : tie.Need-returns-2
 returns-2 c =
     let a = c .before .before .before .before .before .before .before .before .before .before .before .args in
     let r = c .before .before .before .before .before .before .before .root-at in
-    c .before .count-from .ensures ∙ count-rooted (now (a .image)) (a .newest) (a .map) (a .kind) (r .result) (r .ensures .1) (c .before .before .before .before .r2 .given .1)
+    c .before .count-from .ensures ∙ count-rooted (now (a .image)) (a .store) (a .map) (a .kind) (r .result) (r .ensures .1) (c .before .before .before .before .r2 .given .1)
 
 pub count-spec : {M : Type 1} → statement M
 count-spec =

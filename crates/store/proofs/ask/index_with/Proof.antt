@@ -15,13 +15,13 @@ returns : tie.Need-returns
 returns c =
     let a = c .before .before .before .before .before .before .before .before .before .before .args in
     let r = c .before .before .before .before .before .root-at in
-    index-rootless (now (a .image)) (a .m .newest) (a .m .id) (a .m .kind) (r .result) (r .ensures .1) (c .before .r .given .1) (a .index)
+    index-rootless (now (a .image)) (a .m .store) (a .m .id) (a .m .kind) (r .result) (r .ensures .1) (c .before .r .given .1) (a .index)
 
 returns-2 : tie.Need-returns-2
 returns-2 c =
     let a = c .before .before .before .before .before .before .before .before .before .before .before .before .before .before .args in
     let r = c .before .before .before .before .before .before .before .before .before .root-at in
-    c .before .before .fetch-from .ensures ∙ index-rooted (now (a .image)) (a .m .newest) (a .m .id) (a .m .kind) (r .result) (r .ensures .1) (c .before .before .before .before .before .r2 .given .1) (a .index)
+    c .before .before .fetch-from .ensures ∙ index-rooted (now (a .image)) (a .m .store) (a .m .id) (a .m .kind) (r .result) (r .ensures .1) (c .before .before .before .before .before .r2 .given .1) (a .index)
 
 pub index-with-spec : {M : Type 1} → statement M
 index-with-spec =

@@ -17,14 +17,14 @@ returns : tie.Need-returns
 returns c =
     let a = c .before .before .before .before .before .before .before .before .before .before .before .args in
     let r = c .before .before .before .before .before .root-at in
-    lookup-rootless (now (a .image)) (a .m .newest) (a .m .id) (a .m .kind) (r .result) (r .ensures .1) (c .before .r .given .1) (keyOf (a .m .kind) (now (a .key)))
+    lookup-rootless (now (a .image)) (a .m .store) (a .m .id) (a .m .kind) (r .result) (r .ensures .1) (c .before .r .given .1) (keyOf (a .m .kind) (now (a .key)))
 
 returns-2 : tie.Need-returns-2
 returns-2 c =
     let a = c .before .before .before .before .before .before .before .before .before .before .before .before .before .before .before .before .args in
     let r = c .before .before .before .before .before .before .before .before .before .before .root-at in
     let d = c .before .before .before .descend in
-    c .value-by .ensures ∙ lookup-rooted (now (a .image)) (a .m .newest) (a .m .id) (a .m .kind) (r .result) (r .ensures .1) (c .before .before .before .before .before .before .r2 .given .1) (keyOf (a .m .kind) (now (a .key))) (d .result) (d .ensures .1)
+    c .value-by .ensures ∙ lookup-rooted (now (a .image)) (a .m .store) (a .m .id) (a .m .kind) (r .result) (r .ensures .1) (c .before .before .before .before .before .before .r2 .given .1) (keyOf (a .m .kind) (now (a .key))) (d .result) (d .ensures .1)
 
 pub lookup-with-spec : {M : Type 1} → statement M
 lookup-with-spec =

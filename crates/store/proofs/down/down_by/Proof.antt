@@ -13,7 +13,7 @@ use Rattle.store.proofs.down.down_by.Tie as tie
 
 abbrev Inv-loop : tie.InvT-loop
 Inv-loop image memory₀ m w kind places p₀ level₀ found₀ number₀ next₀ memory p level found number next =
-    RightWords image (m .newest) memory × Going image (m .newest) (m .id) (m .kind) places (w .depth) (p₀ .bits) level (p .bits) found number next ×
+    RightWords image (m .store) memory × Going image (m .store) (m .id) (m .kind) places (w .depth) (p₀ .bits) level (p .bits) found number next ×
     (length memory ≡ length memory₀)
 
 abbrev μ-loop : tie.MeasureT-loop
@@ -24,7 +24,7 @@ loop-holds c =
     let a = c .before .before .before .args in
     let pre = c .before .before .before .pre in (
       pre .4,
-      going-root (now (a .image)) (a .m .newest) (a .m .id) (a .m .kind) (a .w .places) (a .w .depth) (a .root .bits) (pre .2) (omega arith) (omega arith)
+      going-root (now (a .image)) (a .m .store) (a .m .id) (a .m .kind) (a .w .places) (a .w .depth) (a .root .bits) (pre .2) (omega arith) (omega arith)
           (omega arith) 0 (a .root),
       refl,
     )
@@ -43,7 +43,7 @@ returns c =
     let after-at = c .before .before .before .after-at in
     let found = c .before .a in (
       r .ensures .0,
-      going-refused (now (a .image)) (a .m .newest) (a .m .id) (a .m .kind) (a .w .places) (a .w .depth) (a .root .bits) few most (l .inv .1)
+      going-refused (now (a .image)) (a .m .store) (a .m .id) (a .m .kind) (a .w .places) (a .w .depth) (a .root .bits) few most (l .inv .1)
           (r .ensures .1) (after-at .ensures) (found .given .1),
     )
 
@@ -59,7 +59,7 @@ add-t32 c =
     let a2 = c .before .a2 in
     omega (
       arith,
-      entry-few (now (a .image)) (a .m .newest) (a .m .id) (a .m .kind) (a .w .places) (a .w .depth) (a .root .bits) few most (l .inv .1)
+      entry-few (now (a .image)) (a .m .store) (a .m .id) (a .m .kind) (a .w .places) (a .w .depth) (a .root .bits) few most (l .inv .1)
           (r .ensures .1) (after-at .ensures) (a2 .given .1),
     )
 
@@ -74,7 +74,7 @@ returns-2 c =
     let after-at = c .before .before .before .after-at in
     let a2 = c .before .a2 in (
       r .ensures .0,
-      going-entry (now (a .image)) (a .m .newest) (a .m .id) (a .m .kind) (a .w .places) (a .w .depth) (a .root .bits) few most (l .inv .1)
+      going-entry (now (a .image)) (a .m .store) (a .m .id) (a .m .kind) (a .w .places) (a .w .depth) (a .root .bits) few most (l .inv .1)
           (r .ensures .1) (after-at .ensures) (a2 .given .1),
     )
 
@@ -90,7 +90,7 @@ returns-3 c =
     let enum-told = c .before .enum-told in
     let over-at = c .over-at in (
       r .ensures .0,
-      going-over (now (a .image)) (a .m .newest) (a .m .id) (a .m .kind) (a .w .places) (a .w .depth) (a .root .bits) few most (l .inv .1)
+      going-over (now (a .image)) (a .m .store) (a .m .id) (a .m .kind) (a .w .places) (a .w .depth) (a .root .bits) few most (l .inv .1)
           (r .ensures .1) (after-at .ensures) (enum-told .given .1) (over-at .ensures),
     )
 
@@ -106,7 +106,7 @@ add-number c =
     let a4 = c .before .a4 in
     omega (
       arith,
-      child-few (now (a .image)) (a .m .newest) (a .m .id) (a .m .kind) (a .w .places) (a .w .depth) (a .root .bits) few most (l .inv .1)
+      child-few (now (a .image)) (a .m .store) (a .m .id) (a .m .kind) (a .w .places) (a .w .depth) (a .root .bits) few most (l .inv .1)
           (r .ensures .1) (after-at .ensures) (a4 .given .1),
     )
 
@@ -123,10 +123,10 @@ loop-again c =
       r .ensures .0,
       ⊎-elim
           (λ w. rw (w .3, w .4, w .5, w .6)
-          (going-last (now (a .image)) (a .m .newest) (a .m .id) (a .m .kind) (a .w .places) (a .w .depth) (a .root .bits) few most (l .inv .1)
+          (going-last (now (a .image)) (a .m .store) (a .m .id) (a .m .kind) (a .w .places) (a .w .depth) (a .root .bits) few most (l .inv .1)
           (r .ensures .1) (after-at .ensures) (w .1 .given .1)))
           (λ w. rw (w .3, w .4, w .5, w .6)
-          (going-child (now (a .image)) (a .m .newest) (a .m .id) (a .m .kind) (a .w .places) (a .w .depth) (a .root .bits) few most (l .inv .1)
+          (going-child (now (a .image)) (a .m .store) (a .m .id) (a .m .kind) (a .w .places) (a .w .depth) (a .root .bits) few most (l .inv .1)
           (r .ensures .1) (after-at .ensures) (w .1 .given .1)))
           (branch .came),
       search needs,

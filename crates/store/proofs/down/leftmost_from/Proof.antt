@@ -13,7 +13,7 @@ use Rattle.store.proofs.down.leftmost_from.Tie as tie
 
 abbrev Inv-loop : tie.InvT-loop
 Inv-loop image memory₀ m level kind q₀ depth₀ memory q depth =
-    RightWords image (m .newest) memory × Lefting image (m .newest) (m .id) (m .kind) level (q₀ .bits) depth (q .bits) ×
+    RightWords image (m .store) memory × Lefting image (m .store) (m .id) (m .kind) level (q₀ .bits) depth (q .bits) ×
     (length memory ≡ length memory₀)
 
 abbrev μ-loop : tie.MeasureT-loop
@@ -23,7 +23,7 @@ loop-holds : tie.Need-loop-holds Inv-loop μ-loop
 loop-holds c =
     let a = c .before .before .args in
     let pre = c .before .before .pre in
-    (pre .1, lefting-start (now (a .image)) (a .m .newest) (a .m .id) (a .m .kind) (a .level) (a .p .bits) (pre .0), refl)
+    (pre .1, lefting-start (now (a .image)) (a .m .store) (a .m .id) (a .m .kind) (a .level) (a .p .bits) (pre .0), refl)
 
 read-page-requires : tie.Need-read-page-requires Inv-loop μ-loop
 read-page-requires c κs = c .before .before .loop .inv .0
@@ -36,7 +36,7 @@ returns c =
     let first-at = c .before .before .before .first-at in
     let found = c .before .a in (
       r .ensures .0,
-      lefting-refused (now (a .image)) (a .m .newest) (a .m .id) (a .m .kind) (l .inv .1) (omega arith) (r .ensures .1) (first-at .ensures)
+      lefting-refused (now (a .image)) (a .m .store) (a .m .id) (a .m .kind) (l .inv .1) (omega arith) (r .ensures .1) (first-at .ensures)
           (found .given .1),
     )
 
@@ -48,7 +48,7 @@ returns-2 c =
     let first-at = c .before .before .before .first-at in
     let a2 = c .before .a2 in (
       r .ensures .0,
-      lefting-entry (now (a .image)) (a .m .newest) (a .m .id) (a .m .kind) (l .inv .1) (omega arith) (r .ensures .1) (first-at .ensures)
+      lefting-entry (now (a .image)) (a .m .store) (a .m .id) (a .m .kind) (l .inv .1) (omega arith) (r .ensures .1) (first-at .ensures)
           (a2 .given .1),
     )
 
@@ -61,7 +61,7 @@ returns-3 c =
     let enum-told = c .before .enum-told in
     let if1 = c .if1 in (
       r .ensures .0,
-      lefting-over (now (a .image)) (a .m .newest) (a .m .id) (a .m .kind) (l .inv .1) (omega arith) (r .ensures .1) (first-at .ensures)
+      lefting-over (now (a .image)) (a .m .store) (a .m .id) (a .m .kind) (l .inv .1) (omega arith) (r .ensures .1) (first-at .ensures)
           (enum-told .given .1) (if1 .taken),
     )
 
@@ -75,7 +75,7 @@ returns-4 c =
     let if1 = c .before .if1 in
     let new = c .new in (
       r .ensures .0,
-      lefting-empty (now (a .image)) (a .m .newest) (a .m .id) (a .m .kind) (l .inv .1) (omega arith) (r .ensures .1) (first-at .ensures)
+      lefting-empty (now (a .image)) (a .m .store) (a .m .id) (a .m .kind) (l .inv .1) (omega arith) (r .ensures .1) (first-at .ensures)
           (enum-told .given .1) (if1 .left) (new .ensures),
     )
 
@@ -89,10 +89,10 @@ loop-again c =
       r .ensures .0,
       ⊎-elim
           (λ w. rw (w .3)
-          (lefting-last (now (a .image)) (a .m .newest) (a .m .id) (a .m .kind) (l .inv .1) (omega arith) (r .ensures .1) (first-at .ensures)
+          (lefting-last (now (a .image)) (a .m .store) (a .m .id) (a .m .kind) (l .inv .1) (omega arith) (r .ensures .1) (first-at .ensures)
           (w .1 .given .1)))
           (λ w. absurd
-          (lefting-child (now (a .image)) (a .m .newest) (a .m .id) (a .m .kind) (l .inv .1) (omega arith) (r .ensures .1) (first-at .ensures)
+          (lefting-child (now (a .image)) (a .m .store) (a .m .id) (a .m .kind) (l .inv .1) (omega arith) (r .ensures .1) (first-at .ensures)
           (w .1 .given .1)))
           (branch .came),
       search needs,
@@ -103,7 +103,7 @@ returns-5 c =
     let a = c .before .before .before .before .before .args in
     let l = c .before .before .loop in
     let new2 = c .new2 in
-    (l .inv .0, lefting-deep (now (a .image)) (a .m .newest) (a .m .id) (a .m .kind) (l .inv .1) (omega arith) (new2 .ensures))
+    (l .inv .0, lefting-deep (now (a .image)) (a .m .store) (a .m .id) (a .m .kind) (l .inv .1) (omega arith) (new2 .ensures))
 
 pub leftmost-from-spec : {M : Type 1} → statement M
 leftmost-from-spec =

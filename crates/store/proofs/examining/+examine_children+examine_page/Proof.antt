@@ -62,7 +62,7 @@ examine-page-below t =
 
 abbrev examine-children-Inv-loop : examine-children-lts.InvT-loop
 examine-children-Inv-loop image memory₀ m page levels kind r₀ lo₀ hi counts₀ keys₀ j₀ memory r lo counts keys j =
-    RightWords image (m .newest) memory × Came image (m .newest) (m .id) (m .kind) levels page lo₀ hi j counts keys lo r ×
+    RightWords image (m .store) memory × Came image (m .store) (m .id) (m .kind) levels page lo₀ hi j counts keys lo r ×
     (length memory ≡ length memory₀)
 
 abbrev examine-children-μ-loop : examine-children-lts.MeasureT-loop
@@ -90,7 +90,7 @@ pub +examine-children+examine-page-spec : {M : Type 1} → statement M
     let a = c .before .before .before .args in
     let g = c .before .before .before .pre .1 in
     let e = c .none .ensures in
-    (g .1, rw e (came-first (now (a .image)) (a .m .newest) (a .m .id) (a .m .kind) (a .levels) (a .page) (a .span .lo) (a .span .hi) (g .2 .1)), refl))
+    (g .1, rw e (came-first (now (a .image)) (a .m .store) (a .m .id) (a .m .kind) (a .levels) (a .page) (a .span .lo) (a .span .hi) (g .2 .1)), refl))
     (λ c κs. search needs)
     (λ c κs.
     let g = c .before .before .before .before .before .before .before .pre in
@@ -99,7 +99,7 @@ pub +examine-children+examine-page-spec : {M : Type 1} → statement M
     let a = c .before .before .before .before .before .before .before .before .before .before .args in
     let g = c .before .before .before .before .before .before .before .before .before .before .pre .1 in
     let l = c .before .before .before .before .before .before .loop in
-    came-fits (now (a .image)) (a .m .newest) (a .m .id) (a .m .kind) (a .levels) (a .page) (a .span .lo) (a .span .hi) (g .2 .1) (l .j) (l .counts)
+    came-fits (now (a .image)) (a .m .store) (a .m .id) (a .m .kind) (a .levels) (a .page) (a .span .lo) (a .span .hi) (g .2 .1) (l .j) (l .counts)
     (l .keys) (l .lo) (l .r) (l .inv .1) (c .before .before .before .before .before .child-at .ensures)
     (g .0) (c .before .before .examine-page .ensures .1))
     (λ c. search needs)
@@ -110,7 +110,7 @@ pub +examine-children+examine-page-spec : {M : Type 1} → statement M
     let g = c .before .before .before .before .before .before .before .before .before .before .before .before .before .pre .1 in
     let l = c .before .before .before .before .before .before .before .before .before .loop in (
       c .before .before .before .before .before .examine-page .ensures .0,
-      came-stopped (now (a .image)) (a .m .newest) (a .m .id) (a .m .kind) (a .levels) (a .page)
+      came-stopped (now (a .image)) (a .m .store) (a .m .id) (a .m .kind) (a .levels) (a .page)
           (a .span .lo) (a .span .hi) (g .2 .1) (l .j) (l .counts) (l .keys) (l .lo) (l .r) (l .inv .1)
           (c .before .before .before .before .before .before .before .before .child-at .ensures)
           (c .before .before .before .before .before .examine-page .ensures .1) (c .before .before .tally .ensures) (c .enum-told .given .1),
@@ -121,7 +121,7 @@ pub +examine-children+examine-page-spec : {M : Type 1} → statement M
     let g = c .before .before .before .before .before .before .before .before .before .before .before .before .before .before .before .before .pre .1 in
     let l = c .before .before .before .before .before .before .before .before .before .before .before .before .loop in (
       c .before .before .before .before .before .before .before .before .examine-page .ensures .0,
-      came-last (now (a .image)) (a .m .newest) (a .m .id) (a .m .kind)
+      came-last (now (a .image)) (a .m .store) (a .m .id) (a .m .kind)
           (a .levels) (a .page) (a .span .lo) (a .span .hi) (g .2 .1) (l .j) (l .counts) (l .keys) (l .lo) (l .r) (l .inv .1)
           (c .before .before .before .before .before .before .before .before .before .before .before .child-at .ensures)
           (c .before .before .before .before .before .before .before .before .examine-page .ensures .1) (c .before .before .before .before .before .tally .ensures)
@@ -137,7 +137,7 @@ pub +examine-children+examine-page-spec : {M : Type 1} → statement M
     let g = c .before .before .before .before .before .before .before .before .before .before .before .before .before .before .before .before .pre .1 in
     let l = c .before .before .before .before .before .before .before .before .before .before .before .before .loop in (
       c .before .before .before .before .before .before .before .before .examine-page .ensures .0,
-      came-on (now (a .image)) (a .m .newest) (a .m .id) (a .m .kind)
+      came-on (now (a .image)) (a .m .store) (a .m .id) (a .m .kind)
           (a .levels) (a .page) (a .span .lo) (a .span .hi) (g .2 .1) (l .j) (l .counts) (l .keys) (l .lo) (l .r) (l .inv .1)
           (c .before .before .before .before .before .before .before .before .before .before .before .child-at .ensures)
           (c .before .before .before .before .before .before .before .before .examine-page .ensures .1) (c .before .before .before .before .before .tally .ensures)
@@ -161,7 +161,7 @@ pub +examine-children+examine-page-spec : {M : Type 1} → statement M
     (λ c.
     let a = c .before .before .before .before .args in (
       c .before .before .before .before .pre .1 .1,
-      examined-deep (now (a .image)) (a .m .newest) (a .m .id) (a .m .kind) (a .levels) (a .top) (a .span .lo) (a .span .hi) (a .p .bits) (c .before .if1 .taken) (c .new .ensures),
+      examined-deep (now (a .image)) (a .m .store) (a .m .id) (a .m .kind) (a .levels) (a .top) (a .span .lo) (a .span .hi) (a .p .bits) (c .before .if1 .taken) (c .new .ensures),
     ))
     (λ c κs. c .before .before .before .before .pre .1 .1)
     (λ c κs. search needs)
@@ -173,16 +173,16 @@ pub +examine-children+examine-page-spec : {M : Type 1} → statement M
     let g = c .before .before .before .before .before .before .before .before .before .before .before .before .pre in
     let if1 = c .before .before .before .before .before .before .before .before .before .if1 in
     let e = c .before .before .before .before .before .before .before .read-page .ensures in
-    let u = page-under (now (a .image)) (a .m .newest) (a .m .id) (a .m .kind) (a .levels) (a .top) (a .span .lo) (a .span .hi) (a .p .bits)
+    let u = page-under (now (a .image)) (a .m .store) (a .m .id) (a .m .kind) (a .levels) (a .top) (a .span .lo) (a .span .hi) (a .p .bits)
     (if1 .left) (e .1) (c .before .before .before .before .part-at .ensures) (c .before .before .part2 .given .1) in
     (omega (arith, g .0, if1 .left), (omega (arith, g .1 .0, if1 .left), e .0, u .all)))
     (λ c κs.
     let a = c .before .before .before .before .before .before .before .before .before .before .before .before .before .before .before .args in
     let if1 = c .before .before .before .before .before .before .before .before .before .before .before .before .if1 in
     let e = c .before .before .before .before .before .before .before .before .before .before .read-page .ensures in
-    let u = page-under (now (a .image)) (a .m .newest) (a .m .id) (a .m .kind) (a .levels) (a .top) (a .span .lo) (a .span .hi) (a .p .bits)
+    let u = page-under (now (a .image)) (a .m .store) (a .m .id) (a .m .kind) (a .levels) (a .top) (a .span .lo) (a .span .hi) (a .p .bits)
     (if1 .left) (e .1) (c .before .before .before .before .before .before .before .part-at .ensures) (c .before .before .before .before .before .part2 .given .1) in
-    over-fits (now (a .image)) (a .m .newest) (a .m .id) (a .m .kind) (a .levels - 1) (c .before .before .before .before .before .part2 .given .0 .0) (a .span .lo) (a .span .hi)
+    over-fits (now (a .image)) (a .m .store) (a .m .id) (a .m .kind) (a .levels - 1) (c .before .before .before .before .before .part2 .given .0 .0) (a .span .lo) (a .span .hi)
     (omega (arith, c .before .before .before .before .before .before .before .before .before .before .before .before .before .before .before .pre .1 .0, if1 .left))
     (u .all .1) (c .before .before .examine-children .ensures .1))
     (λ c. search needs)
@@ -190,7 +190,7 @@ pub +examine-children+examine-page-spec : {M : Type 1} → statement M
     let a = c .before .before .before .before .before .before .before .before .before .before .before .args in
     let e = c .before .before .before .before .before .before .read-page .ensures in (
       e .0,
-      page-done (now (a .image)) (a .m .newest) (a .m .id) (a .m .kind) (a .levels) (a .top) (a .span .lo) (a .span .hi) (a .p .bits)
+      page-done (now (a .image)) (a .m .store) (a .m .id) (a .m .kind) (a .levels) (a .top) (a .span .lo) (a .span .hi) (a .p .bits)
           (c .before .before .before .before .before .before .before .before .if1 .left) (e .1) (c .before .before .before .part-at .ensures) (c .before .part .given .1),
     ))
     (λ c. search needs)
@@ -198,7 +198,7 @@ pub +examine-children+examine-page-spec : {M : Type 1} → statement M
     let a = c .before .before .before .before .before .before .before .before .before .before .before .before .before .before .before .before .args in
     let e = c .before .before .before .before .before .before .before .before .before .before .before .read-page .ensures in
     let f = c .before .before .before .examine-children .ensures in
-    let u = page-under (now (a .image)) (a .m .newest) (a .m .id) (a .m .kind) (a .levels) (a .top) (a .span .lo) (a .span .hi) (a .p .bits)
+    let u = page-under (now (a .image)) (a .m .store) (a .m .id) (a .m .kind) (a .levels) (a .top) (a .span .lo) (a .span .hi) (a .p .bits)
     (c .before .before .before .before .before .before .before .before .before .before .before .before .before .if1 .left) (e .1)
     (c .before .before .before .before .before .before .before .before .part-at .ensures) (c .before .before .before .before .before .before .part2 .given .1) in
     (f .0, c .over-children .ensures ∙ ap overChildren (f .1) ∙ u .children)))

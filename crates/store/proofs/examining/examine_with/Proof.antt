@@ -14,20 +14,20 @@ returns : tie.Need-returns
 returns c =
     let a = c .before .before .before .before .before .before .before .before .before .before .before .before .before .args in
     let r = c .before .before .before .before .before .before .before .before .root-at in
-    ap examined.Passed (c .none .ensures) ∙ map-empty (now (a .image)) (a .m .newest) (a .m .id) (a .m .kind) (r .result) (r .ensures .1)
+    ap examined.Passed (c .none .ensures) ∙ map-empty (now (a .image)) (a .m .store) (a .m .id) (a .m .kind) (r .result) (r .ensures .1)
     (c .before .before .before .before .r2 .given .1) (empty-zero (c .before .before .is-empty .ensures) (c .before .if1 .taken))
 
 returns-2 : tie.Need-returns-2
 returns-2 c =
     let a = c .before .before .before .before .before .before .before .before .before .before .args in
     let r = c .before .before .before .before .before .root-at in
-    map-refused (now (a .image)) (a .m .newest) (a .m .id) (a .m .kind) (r .result) (r .ensures .1) (c .before .r .given .1)
+    map-refused (now (a .image)) (a .m .store) (a .m .id) (a .m .kind) (r .result) (r .ensures .1) (c .before .r .given .1)
 
 returns-3 : tie.Need-returns-3
 returns-3 c =
     let a = c .before .before .before .before .before .before .before .before .before .before .before .before .before .before .before .before .args in
     let r = c .before .before .before .before .before .before .before .before .before .before .before .root-at in
-    c .before .before .examine-page .ensures .1 ∙ map-examined (now (a .image)) (a .m .newest) (a .m .id) (a .m .kind) (r .result) (r .ensures .1)
+    c .before .before .examine-page .ensures .1 ∙ map-examined (now (a .image)) (a .m .store) (a .m .id) (a .m .kind) (r .result) (r .ensures .1)
     (c .before .before .before .before .before .before .before .r2 .given .1) (full-other (c .before .before .before .before .before .is-empty .ensures) (c .before .before .before .before .if1 .left))
 
 pub examine-with-spec : {M : Type 1} → statement M

@@ -10,7 +10,7 @@ use Rattle.store.proofs.read.read_page.Tie as tie
 returns : tie.Need-returns
 returns c =
     let a = c .before .before .before .before .before .args in
-    (c .before .before .before .before .before .pre, judged-zero (now (a .image)) (a .m .newest) (a .m .id) (a .m .kind) (a .p .bits) (empty-zero (c .before .before .is-empty .ensures) (c .before .if1 .taken)) (c .new .ensures))
+    (c .before .before .before .before .before .pre, judged-zero (now (a .image)) (a .m .store) (a .m .id) (a .m .kind) (a .p .bits) (empty-zero (c .before .before .is-empty .ensures) (c .before .if1 .taken)) (c .new .ensures))
 
 locate-requires : tie.Need-locate-requires
 locate-requires c κs = (omega arith, c .before .before .before .before .before .before .before .pre)
@@ -19,13 +19,13 @@ returns-2 : tie.Need-returns-2
 returns-2 c =
     let a = c .before .before .before .before .before .before .before .before .before .before .before .before .before .before .args in
     let l = c .before .before .before .before .before .before .locate in
-    (l .ensures .0, c .judge .ensures ∙ judged-there (now (a .image)) (a .m .newest) (a .m .id) (a .m .kind) (a .p .bits) (full-other (c .before .before .before .before .before .before .before .before .before .before .before .is-empty .ensures) (c .before .before .before .before .before .before .before .before .before .before .if1 .left)) _ (c .before .before .before .before .before .before .before .chunk .ensures) (l .ensures .1) (c .before .before .t .given .1))
+    (l .ensures .0, c .judge .ensures ∙ judged-there (now (a .image)) (a .m .store) (a .m .id) (a .m .kind) (a .p .bits) (full-other (c .before .before .before .before .before .before .before .before .before .before .before .is-empty .ensures) (c .before .before .before .before .before .before .before .before .before .before .if1 .left)) _ (c .before .before .before .before .before .before .before .chunk .ensures) (l .ensures .1) (c .before .before .t .given .1))
 
 returns-3 : tie.Need-returns-3
 returns-3 c =
     let a = c .before .before .before .before .before .before .before .before .before .before .before .before .before .args in
     let l = c .before .before .before .before .before .locate in
-    (l .ensures .0, judged-nowhere (now (a .image)) (a .m .newest) (a .m .id) (a .m .kind) (a .p .bits) (full-other (c .before .before .before .before .before .before .before .before .before .before .is-empty .ensures) (c .before .before .before .before .before .before .before .before .before .if1 .left)) _ (c .before .before .before .before .before .before .chunk .ensures) (l .ensures .1) (c .before .t2 .given .1))
+    (l .ensures .0, judged-nowhere (now (a .image)) (a .m .store) (a .m .id) (a .m .kind) (a .p .bits) (full-other (c .before .before .before .before .before .before .before .before .before .before .is-empty .ensures) (c .before .before .before .before .before .before .before .before .before .if1 .left)) _ (c .before .before .before .before .before .before .chunk .ensures) (l .ensures .1) (c .before .t2 .given .1))
 
 pub read-page-spec : {M : Type 1} → statement M
 read-page-spec =

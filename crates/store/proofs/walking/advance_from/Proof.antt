@@ -16,7 +16,7 @@ returns c =
     let if1 = c .before .before .if1 in
     let new = c .before .new in
     let refused = c .refused in
-    step-unformed (now (a .image)) (a .m .newest) (a .m .id) (a .m .kind) (a .root .bits) (a .w) (sym (is-formed .ensures .0) ∙ if1 .left) (new .ensures)
+    step-unformed (now (a .image)) (a .m .store) (a .m .id) (a .m .kind) (a .root .bits) (a .w) (sym (is-formed .ensures .0) ∙ if1 .left) (new .ensures)
     (refused .ensures)
 
 returns-2 : tie.Need-returns-2
@@ -25,7 +25,7 @@ returns-2 c =
     let is-formed = c .before .before .before .before .is-formed in
     let if1 = c .before .before .before .if1 in
     let h = sym (is-formed .ensures .0) ∙ if1 .taken in
-    step-empty (now (a .image)) (a .m .newest) (a .m .id) (a .m .kind) (a .root .bits) (a .w) h
+    step-empty (now (a .image)) (a .m .store) (a .m .id) (a .m .kind) (a .root .bits) (a .w) h
     (omega (arith, formed-most (a .w) h, is-formed .ensures .1 (if1 .taken))) (empty-zero (c .before .before .is-empty .ensures) (c .before .if2 .taken))
     (c .in-empty .ensures)
 
@@ -38,7 +38,7 @@ returns-3 c =
     let leftmost-from = c .before .before .before .leftmost-from in
     let left-step = c .left-step in
     let other = full-other {p = a .root .bits} (c .before .before .before .before .before .before .before .before .is-empty .ensures) (c .before .before .before .before .before .before .before .if2 .left) in
-    step-first (now (a .image)) (a .m .newest) (a .m .id) (a .m .kind) (a .root .bits) (a .w) (sym (is-formed .ensures .0) ∙ if1 .taken) (if3 .taken)
+    step-first (now (a .image)) (a .m .store) (a .m .id) (a .m .kind) (a .root .bits) (a .w) (sym (is-formed .ensures .0) ∙ if1 .taken) (if3 .taken)
     (omega (arith, other)) (leftmost-from .result) (leftmost-from .ensures .1) (left-step .ensures)
 
 down-by-requires : tie.Need-down-by-requires
@@ -62,7 +62,7 @@ add-leftmost-from c =
     omega (
       arith,
       formed-most (a .w) h,
-      left-low (now (a .image)) (a .m .newest) (a .m .id) (a .m .kind) (a .root .bits) (a .w) h
+      left-low (now (a .image)) (a .m .store) (a .m .id) (a .m .kind) (a .root .bits) (a .w) h
           (omega (arith, formed-most (a .w) h, is-formed .ensures .1 (if1 .taken))) (down-by .ensures .1)
           (d2 .given .1),
     )
@@ -78,7 +78,7 @@ leftmost-from-requires-2 c κs =
       omega (
         arith,
         formed-most (a .w) h,
-        left-low (now (a .image)) (a .m .newest) (a .m .id) (a .m .kind) (a .root .bits) (a .w) h
+        left-low (now (a .image)) (a .m .store) (a .m .id) (a .m .kind) (a .root .bits) (a .w) h
             (omega (arith, formed-most (a .w) h, is-formed .ensures .1 (if1 .taken))) (down-by .ensures .1)
             (d2 .given .1),
       ),
@@ -94,7 +94,7 @@ returns-4 c =
     let d = c .before .before .d in
     let numbered = c .numbered in
     let h = sym (is-formed .ensures .0) ∙ if1 .taken in
-    step-entry (now (a .image)) (a .m .newest) (a .m .id) (a .m .kind) (a .root .bits) (a .w) h
+    step-entry (now (a .image)) (a .m .store) (a .m .id) (a .m .kind) (a .root .bits) (a .w) h
     (omega (arith, formed-most (a .w) h, is-formed .ensures .1 (if1 .taken))) (down-by .ensures .1)
     (d .given .1) (formed-most (a .w) h) (numbered .ensures)
 
@@ -108,7 +108,7 @@ returns-5 c =
     let leftmost-from2 = c .before .before .before .leftmost-from2 in
     let left-step2 = c .left-step2 in
     let h = sym (is-formed .ensures .0) ∙ if1 .taken in
-    step-on (now (a .image)) (a .m .newest) (a .m .id) (a .m .kind) (a .root .bits) (a .w) h
+    step-on (now (a .image)) (a .m .store) (a .m .id) (a .m .kind) (a .root .bits) (a .w) h
     (omega (arith, formed-most (a .w) h, is-formed .ensures .1 (if1 .taken))) (down-by .ensures .1)
     (d2 .given .1) (leftmost-from2 .result) (leftmost-from2 .ensures .1) (left-step2 .ensures)
 
@@ -121,7 +121,7 @@ returns-6 c =
     let enum-told = c .before .enum-told in
     let done = c .done in
     let h = sym (is-formed .ensures .0) ∙ if1 .taken in
-    step-done (now (a .image)) (a .m .newest) (a .m .id) (a .m .kind) (a .root .bits) (a .w) h
+    step-done (now (a .image)) (a .m .store) (a .m .id) (a .m .kind) (a .root .bits) (a .w) h
     (omega (arith, formed-most (a .w) h, is-formed .ensures .1 (if1 .taken))) (down-by .ensures .1)
     (enum-told .given .1) (done .ensures)
 
@@ -134,7 +134,7 @@ returns-7 c =
     let d3 = c .before .before .d3 in
     let refused2 = c .refused2 in
     let h = sym (is-formed .ensures .0) ∙ if1 .taken in
-    step-refused (now (a .image)) (a .m .newest) (a .m .id) (a .m .kind) (a .root .bits) (a .w) h
+    step-refused (now (a .image)) (a .m .store) (a .m .id) (a .m .kind) (a .root .bits) (a .w) h
     (omega (arith, formed-most (a .w) h, is-formed .ensures .1 (if1 .taken))) (down-by .ensures .1)
     (d3 .given .1) (refused2 .ensures)
 

@@ -13,7 +13,7 @@ returns c =
     let root-at = c .before .before .before .before .before .before .root-at in
     let r = c .before .before .r in
     let refused = c .refused in
-    step-no-root (now (a .image)) (a .m .newest) (a .m .id) (a .m .kind) (a .w) (root-at .ensures .1) (r .given .1) (refused .ensures)
+    step-no-root (now (a .image)) (a .m .store) (a .m .id) (a .m .kind) (a .w) (root-at .ensures .1) (r .given .1) (refused .ensures)
 
 returns-2 : tie.Need-returns-2
 returns-2 c =
@@ -21,7 +21,7 @@ returns-2 c =
     let root-at = c .before .before .before .before .before .before .before .before .before .root-at in
     let r2 = c .before .before .before .before .before .r2 in
     let advance-from = c .before .before .advance-from in
-    step-from (now (a .image)) (a .m .newest) (a .m .id) (a .m .kind) (a .w) (root-at .ensures .1) (r2 .given .1) (advance-from .ensures)
+    step-from (now (a .image)) (a .m .store) (a .m .id) (a .m .kind) (a .w) (root-at .ensures .1) (r2 .given .1) (advance-from .ensures)
 
 pub advance-with-spec : {M : Type 1} → statement M
 advance-with-spec =
