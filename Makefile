@@ -6,18 +6,20 @@
 #   make install      header, archive, pkg-config file, command and man pages, to $(DESTDIR)$(PREFIX)
 #   make bench        times the library
 #   make fuzz         fuzzes the library's C exports for SECONDS=60; needs clang's libFuzzer or AFL++
+#   make version      prints the version that is installed
 #
 # LIB=FILE takes an archive that is already made, and LDLIBS what it needs; then nothing is proved.
 PREFIX = /usr/local
 DESTDIR =
 LIB = target/staticlib/libmvstore.a
-VERSION = 0.1.0
+# The header says the version.
+VERSION := $(shell sed -n 's/^.define MVSTORE_VERSION "\(.*\)"$$/\1/p' include/mvstore.h)
 CFLAGS = -O2
 WARNINGS = -std=c11 -Wall -Wextra -Wpedantic
 INSTALL = install
 SECONDS = 60
 
-.PHONY: list test lib mvstore plotter install bench fuzz
+.PHONY: list test lib mvstore plotter install bench fuzz version
 
 # rt is asked each time, and proves again only what has changed; not where LIB is given, though it
 # be the same file.
@@ -25,10 +27,11 @@ ifeq ($(origin LIB), file)
 .PHONY: target/staticlib/libmvstore.a
 endif
 
-# H2 wrote the sample; its sums were then rewritten by document 01's rules, and H2 itself rejects it.
+# The listing takes edition 1 only. Its sample is tests/stores/bridge.mv, which H2 wrote, with the sums
+# of that edition.
 list:
 	rt check listing
-	target/bin/listing < tests/stores/bridge.base.mv
+	target/bin/listing < crates/listing/stdin
 
 test:
 	.ci/run
@@ -68,3 +71,6 @@ bench:
 
 fuzz: $(LIB)
 	tests/fuzz/run $(SECONDS) $(LIB)
+
+version:
+	@echo $(VERSION)

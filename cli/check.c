@@ -8,7 +8,7 @@
 
 static mvstore_report examine(image file, uint64_t map, uint64_t kind)
 {
-    return mvstore_examine(file.at, file.len, map, kind);
+    return mvstore_examine(file.at, file.len, file.view, map, kind);
 }
 
 static int print_report(const char *kind, mvstore_report r)
@@ -39,7 +39,7 @@ static int check_either(image file, uint64_t map)
 
 static int check_named(image file, map_name name)
 {
-    mvstore_id id = mvstore_map(file.at, file.len, name.at, name.len);
+    mvstore_id id = mvstore_map(file.at, file.len, file.view, name.at, name.len);
     int status;
     fwrite(name.at, 1, name.len, stdout);
     if (id.refusal != 0) {

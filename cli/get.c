@@ -7,7 +7,8 @@
 
 int command_get(image file, asked m, const word_key *key)
 {
-    mvstore_value v = mvstore_lookup(file.at, file.len, m.map, m.kind, key->at, key->len);
+    mvstore_value v =
+        mvstore_lookup(file.at, file.len, file.view, m.map, m.kind, key->at, key->len);
     if (v.refusal != 0)
         return refusal_say(v.refusal);
     if (v.found == 0)

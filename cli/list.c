@@ -45,7 +45,7 @@ static void print_entry(image file, asked m, const mvstore_step *s, int csv)
 int command_list(image file, asked m, int csv)
 {
     mvstore_walk walk = {0};
-    mvstore_step s = mvstore_next(file.at, file.len, m.map, m.kind, walk);
+    mvstore_step s = mvstore_next(file.at, file.len, file.view, m.map, m.kind, walk);
     progress p = progress_start();
     uint64_t entries = 0;
     if (csv && s.refusal == 0)
@@ -53,7 +53,7 @@ int command_list(image file, asked m, int csv)
     while (s.refusal == 0 && s.done == 0 && !ferror(stdout)) {
         print_entry(file, m, &s, csv);
         progress_tell(&p, ++entries);
-        s = mvstore_next(file.at, file.len, m.map, m.kind, s.walk);
+        s = mvstore_next(file.at, file.len, file.view, m.map, m.kind, s.walk);
     }
     progress_end(&p);
     return s.refusal != 0 ? refusal_say(s.refusal) : 0;

@@ -9,8 +9,8 @@
 /* The kind isn't in the file. The root page's count is the same for whichever kind can read it. */
 static mvstore_count_of count(image file, uint64_t map)
 {
-    mvstore_count_of c = mvstore_count(file.at, file.len, map, MVSTORE_NUMBER);
-    return c.refusal == 0 ? c : mvstore_count(file.at, file.len, map, MVSTORE_TEXT);
+    mvstore_count_of c = mvstore_count(file.at, file.len, file.view, map, MVSTORE_NUMBER);
+    return c.refusal == 0 ? c : mvstore_count(file.at, file.len, file.view, map, MVSTORE_TEXT);
 }
 
 static int end_unknown(uint32_t refusal)
@@ -23,7 +23,7 @@ static int end_unknown(uint32_t refusal)
 
 static int print_map(image file, map_name name)
 {
-    mvstore_id id = mvstore_map(file.at, file.len, name.at, name.len);
+    mvstore_id id = mvstore_map(file.at, file.len, file.view, name.at, name.len);
     fwrite(name.at, 1, name.len, stdout);
     putchar('\t');
     if (id.refusal != 0) {

@@ -5,10 +5,11 @@
 #include <string.h>
 
 #include "command.h"
+#include "edition.h"
 #include "mvstore.h"
+#include "option.h"
 #include "refusal.h"
 
-#define VERSION "0.1.0"
 #define MISUSE 2
 
 static const char usage[] =
@@ -17,13 +18,14 @@ static const char usage[] =
     "       mvstore check FILE [MAP KIND]\n"
     "       mvstore get FILE MAP KIND KEY\n"
     "       mvstore list FILE MAP KIND [--csv]\n"
-    "       mvstore --help | --version\n";
+    "       mvstore --help | --version\n"
+    "       with --edition 1, 2 or auto anywhere among the words; -- ends options\n";
 
 static const char help[] =
     "\n"
     "Reads H2 MVStore files, format 1, and never writes them.\n"
     "\n"
-    "  info    the newest chunk: its id, version and blocks\n"
+    "  info    the newest chunk: its id, version and blocks, and the edition\n"
     "  maps    name, id and number of entries of every map\n"
     "  check   examines a map, or the metadata and every map\n"
     "  get     the value of a key, or 'absent'\n"
@@ -38,6 +40,13 @@ static const char help[] =
     "which is the same whatever the kind: it tries number and, where that is refused,\n"
     "text. check without MAP examines as number and as text, and says which one the\n"
     "map is sound as, or 'either'.\n"
+    "\n"
+    "A file's lines have sums, which two editions take differently: H2 1.4.197 writes\n"
+    "edition 2. --edition 1, --edition=2 and so on name the one by which all lines are\n"
+    "judged. auto, the default, is the one in which the file opens. Where both open it\n"
+    "is 1, or 2 if only there all maps are located; where they open at different chunks\n"
+    "a warning names them. Behind a word -- no option is looked for: get FILE MAP text\n"
+    "-- --edition asks for that key.\n"
     "\n"
     "Exit status: 0; 1 when something was refused; 2 for misuse, or where the file\n"
     "can't be mapped or the output not written.\n";
@@ -54,6 +63,14 @@ static int bad_word(const char *what, const char *word)
     return misuse();
 }
 
+static int bad_edition(const char *word)
+{
+    if (*word != '\0')
+        return bad_word("edition", word);
+    fputs("mvstore: --edition takes 1, 2 or auto\n", stderr);
+    return misuse();
+}
+
 /* MAP KIND; gives the exit status, or 0. */
 static int ask(image file, char **word, asked *m)
 {
@@ -62,7 +79,8 @@ static int ask(image file, char **word, asked *m)
         return bad_word("kind", word[1]);
     if (word[0][0] == '#')
         return word_id(word[0], &m->map) ? 0 : bad_word("map id", word[0]);
-    mvstore_id id = mvstore_map(file.at, file.len, (const uint8_t *)word[0], strlen(word[0]));
+    const uint8_t *name = (const uint8_t *)word[0];
+    mvstore_id id = mvstore_map(file.at, file.len, file.view, name, strlen(word[0]));
     m->map = id.id;
     return id.refusal != 0 ? refusal_say(id.refusal) : 0;
 }
@@ -114,21 +132,35 @@ static int list(image file, char **word, int words)
     return status != 0 ? status : command_list(file, m, csv);
 }
 
+typedef int command(image file, char **word, int words);
+
 static const struct {
     const char *name;
-    int (*run)(image file, char **word, int words);
+    command *run;
 } commands[] = {{"info", info}, {"maps", maps}, {"check", check}, {"get", get}, {"list", list}};
+
+/* FILE and the command's words, of which there are so many. */
+static int answer(command *run, uint64_t edition, char **word, int words)
+{
+    image file;
+    if (!image_open(word[0], &file))
+        return MISUSE;
+    file.view = edition_choose(file, edition);
+    return run(file, word + 1, words);
+}
 
 static int run(int argc, char **argv)
 {
-    image file;
+    options o = options_take(&argc, argv);
+    if (o.wrong != NULL)
+        return bad_edition(o.wrong);
     if (argc == 2 && strcmp(argv[1], "--help") == 0)
         return fputs(usage, stdout), fputs(help, stdout), 0;
     if (argc == 2 && strcmp(argv[1], "--version") == 0)
-        return puts("mvstore " VERSION), 0;
+        return puts("mvstore " MVSTORE_VERSION), 0;
     for (size_t i = 0; argc >= 3 && i < sizeof commands / sizeof *commands; i++)
         if (strcmp(argv[1], commands[i].name) == 0)
-            return image_open(argv[2], &file) ? commands[i].run(file, argv + 3, argc - 3) : MISUSE;
+            return answer(commands[i].run, o.edition, argv + 2, argc - 3);
     return misuse();
 }
 

@@ -1,5 +1,5 @@
 /* plotter.c - prints axial force, shear and moment of members, from map `forces`.
- * `plotter FILE MEMBER...` exits with 0, with 1 when something was refused, with 2 for misuse. */
+ * `plotter [-1] FILE MEMBER...` exits with 0, with 1 when something was refused, with 2 for misuse. */
 #define _POSIX_C_SOURCE 200809L
 #include <errno.h>
 #include <fcntl.h>
@@ -59,19 +59,22 @@ int main(int argc, char **argv)
 {
     const uint8_t *image;
     size_t len;
-    int refusals = 0;
-    if (argc < 3)
-        return fprintf(stderr, "usage: plotter FILE MEMBER...\n"), 2;
-    if (!lend(argv[1], &image, &len))
-        return perror(argv[1]), 2;
-    mvstore_id forces = mvstore_map(image, len, (const uint8_t *)"forces", 6);
+    int refusals = 0, older = argc > 1 && strcmp(argv[1], "-1") == 0, file = 1 + older;
+    /* Edition 2 is what H2 writes; -1 is for stores of the older desk tool. It is named, not guessed:
+     * a file can open in both, at different versions. */
+    mvstore_view view = mvstore_view_of(older ? MVSTORE_EDITION_1 : MVSTORE_EDITION_2);
+    if (argc < file + 2)
+        return fprintf(stderr, "usage: plotter [-1] FILE MEMBER...\n"), 2;
+    if (!lend(argv[file], &image, &len))
+        return perror(argv[file]), 2;
+    mvstore_id forces = mvstore_map(image, len, view, (const uint8_t *)"forces", 6);
     if (forces.refusal != 0)
         return printf("refused %u: %s\n", forces.refusal, mvstore_refusal_text(forces.refusal)), 1;
-    for (int i = 2; i < argc; i++) {
+    for (int i = file + 1; i < argc; i++) {
         uint8_t key[8];
         if (!member_key(argv[i], key))
             return fprintf(stderr, "plotter: %s is no member number\n", argv[i]), 2;
-        mvstore_value v = mvstore_lookup(image, len, forces.id, MVSTORE_NUMBER, key, sizeof key);
+        mvstore_value v = mvstore_lookup(image, len, view, forces.id, MVSTORE_NUMBER, key, 8);
         print(argv[i], v, image + v.at);
         refusals |= v.refusal != 0;
     }

@@ -1,4 +1,4 @@
-/* mvstore.h - reads H2 MVStore files, format 1.
+/* mvstore.h - reads H2 MVStore files, format 1. Version 0.2.0.
  *
  * A structural engineer signs what is drawn from these answers, so the library
  * behind this header is proved: every call ends, for whatever bytes the file
@@ -37,9 +37,17 @@
  *    bytes, high byte first, and handed back as a number. Kind 1 (MVSTORE_TEXT)
  *    is up to 1,024 bytes of 32 to 126, handed back by place and length.
  *
- * 7. Names. Only names that begin with mvstore_ or MVSTORE_ are defined. Later
+ * 7. The view. Every call that opens the image takes, right after it, how to
+ *    open it: in which of two editions the sums in the file's lines were
+ *    written. Files as H2 1.4.197 writes them are edition 2. A view that was
+ *    forgotten is all zeros and refused with 1: no edition is guessed. A text
+ *    of even length has one sum in both, so an image can open in either, even
+ *    at different chunks: who doesn't know asks mvstore_newest in both.
+ *
+ * 8. Names. Only names that begin with mvstore_ or MVSTORE_ are defined. Later
  *    versions may add members at the end of a struct: compile against the
- *    header of the archive that you link.
+ *    header of the archive that you link. A view made by mvstore_view_of keeps
+ *    its meaning then.
  */
 #ifndef MVSTORE_H
 #define MVSTORE_H
@@ -51,19 +59,45 @@
 extern "C" {
 #endif
 
+/* The version of this header, as text and for #if. */
+#define MVSTORE_VERSION "0.2.0"
+#define MVSTORE_VERSION_MAJOR 0
+#define MVSTORE_VERSION_MINOR 2
+#define MVSTORE_VERSION_PATCH 0
+
 /* The two kinds of key. */
 #define MVSTORE_NUMBER 0
 #define MVSTORE_TEXT 1
 
+/* The two editions. A sum takes a text's bytes in words of two; where a text
+ * has an odd last byte, edition 1 doesn't count it, and edition 2 takes it as
+ * the high half of a word whose low half is 0. Every line with a sum, in file
+ * headers and footers, is judged by the one edition that is named. */
+#define MVSTORE_EDITION_1 1
+#define MVSTORE_EDITION_2 2
+
+/* How an image is opened. */
+typedef struct mvstore_view {
+    uint64_t edition; /* MVSTORE_EDITION_1 or MVSTORE_EDITION_2 */
+} mvstore_view;
+
+/* mvstore_view_of: the view of an edition, in C and in C++. */
+static inline mvstore_view mvstore_view_of(uint64_t edition)
+{
+    mvstore_view view = {edition};
+    return view;
+}
+
 /* REFUSALS. Each in its stated case and in no other; arguments are judged
  * first, then the image is opened, then the map is asked. */
 
-/* A kind other than 0 or 1, map 0 with kind 0, a map id above 2^31-1, a badly
- * formed key, or a map name that is not 1 to 1,000 bytes of 32 to 126. */
+/* An edition other than 1 or 2, a kind other than 0 or 1, map 0 with kind 0, a
+ * map id above 2^31-1, a badly formed key, or a map name that is not 1 to 1,000
+ * bytes of 32 to 126. */
 #define MVSTORE_BAD_ARGUMENT 1
 /* The image has fewer than 3 blocks of 4,096 bytes, or more than 268,435,456. */
 #define MVSTORE_BAD_IMAGE_SIZE 2
-/* Neither file header is good. */
+/* Neither file header is good in the view's edition. */
 #define MVSTORE_NO_HEADER 3
 /* Neither the chunk that the file header names, with its id, stands, nor the
  * one that the image's last footer names, ending where the image ends. */
@@ -171,20 +205,21 @@ typedef struct mvstore_report {
 } mvstore_report;
 
 /* mvstore_newest: the chunk that the image opens at. Every other call opens the
- * image in the same way. Refuses with 2 to 4. */
-mvstore_chunk mvstore_newest(const uint8_t *image, size_t image_len);
+ * image in the same way. Refuses with 1 to 4. */
+mvstore_chunk mvstore_newest(const uint8_t *image, size_t image_len,
+                             mvstore_view view);
 
 /* mvstore_map: the id of the map with this name.
  * Refuses with 1 to 11, 13 and 14. */
 mvstore_id mvstore_map(const uint8_t *image, size_t image_len,
-                       const uint8_t *name, size_t name_len);
+                       mvstore_view view, const uint8_t *name, size_t name_len);
 
 /* mvstore_lookup: the value of a key.
  * An answer is defined on any pages, sorted or not: at an inner page the child
  * in front of the first greater separator, or the last child, at a leaf the
  * first equal key before any greater one. Refuses with 1 to 11 and 14. */
 mvstore_value mvstore_lookup(const uint8_t *image, size_t image_len,
-                             uint64_t map, uint64_t kind,
+                             mvstore_view view, uint64_t map, uint64_t kind,
                              const uint8_t *key, size_t key_len);
 
 /* mvstore_copy: a lookup that also writes the value at the start of `area`, and
@@ -192,33 +227,35 @@ mvstore_value mvstore_lookup(const uint8_t *image, size_t image_len,
  * the bytes it had. The area must not overlap the image or the key.
  * Refuses with 1 to 11, 14 and 16. */
 mvstore_value mvstore_copy(const uint8_t *image, size_t image_len,
-                           uint64_t map, uint64_t kind,
+                           mvstore_view view, uint64_t map, uint64_t kind,
                            const uint8_t *key, size_t key_len,
                            uint8_t *area, size_t area_len);
 
 /* mvstore_index: the entry numbered `index`, from 0, by the recorded counts.
  * Refuses with 1 to 11, 14 and 15. */
 mvstore_entry mvstore_index(const uint8_t *image, size_t image_len,
-                            uint64_t map, uint64_t kind, uint64_t index);
+                            mvstore_view view, uint64_t map, uint64_t kind,
+                            uint64_t index);
 
 /* mvstore_count: how many entries the map has, by its root page.
  * Refuses with 1 to 11 and 14. */
 mvstore_count_of mvstore_count(const uint8_t *image, size_t image_len,
-                               uint64_t map, uint64_t kind);
+                               mvstore_view view, uint64_t map, uint64_t kind);
 
 /* mvstore_next: one step of the walk of a map, entries from left to right. Done
  * and refusals are recorded in the state and given again at each later step,
  * whatever else is passed. Refuses with 1 to 12 and 14, and with any number of
  * 1 to 16 that the state records: 13, 15 and 16 too, which no step records. */
 mvstore_step mvstore_next(const uint8_t *image, size_t image_len,
-                          uint64_t map, uint64_t kind, mvstore_walk walk);
+                          mvstore_view view, uint64_t map, uint64_t kind,
+                          mvstore_walk walk);
 
 /* mvstore_examine: reads the whole map and refuses at its first fault. If it
  * passes, then lookup of any well-formed key, every index, the count and the
  * walk agree with the entries in the map's leaves: this is proved. A key that
  * is then absent is not in the file. Refuses with 1 to 12 and 14. */
 mvstore_report mvstore_examine(const uint8_t *image, size_t image_len,
-                               uint64_t map, uint64_t kind);
+                               mvstore_view view, uint64_t map, uint64_t kind);
 
 /* mvstore_refusal_text: a refusal in words, "an answer" for 0, "an unknown
  * refusal" for a number that is not in the table. The text is constant. */
@@ -226,7 +263,7 @@ static inline const char *mvstore_refusal_text(uint32_t refusal)
 {
     static const char *const text[] = {
         "an answer",
-        "bad argument: kind, map id, key or map name",
+        "bad argument: edition, kind, map id, key or map name",
         "the image has too few or too many blocks",
         "no good file header",
         "no chunk stands where the headers say that the newest one starts",

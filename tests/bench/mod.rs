@@ -9,9 +9,9 @@ use pairs::{timed, Timed};
 use store::Store;
 
 use crate::family::questions::FORCES;
-use crate::model::ask;
+use crate::model::ask::{self, View};
 use crate::random::Random;
-use crate::subject::exports;
+use crate::subject::exports::{self, Lent};
 
 /// Entries and chunks.
 const STORES: [(u64, u64); 2] = [(1_000, 10), (100_000, 500)];
@@ -22,6 +22,9 @@ const CALLS: usize = 200;
 
 /// The place of an entry's value, by its number in the map.
 type Asks = fn(&Store, u64) -> u64;
+
+/// The edition in which the stores are built.
+const VIEW: View = View::FIRST;
 
 pub fn print() {
     println!("entries  blocks    call  exports    model  exports/model  quartiles");
@@ -57,25 +60,29 @@ fn numbers(store: &Store, task: usize) -> impl Iterator<Item = u64> + '_ {
     (0..CALLS).map(move |_| random.below(store.entries))
 }
 
+fn lent(store: &Store) -> Lent<'_> {
+    Lent { image: &store.image, view: VIEW }
+}
+
 fn lookup_by_model(store: &Store, i: u64) -> u64 {
     let key = store.key(i).to_be_bytes();
-    let found = ask::lookup(&store.image, FORCES.id, FORCES.kind, &key);
+    let found = ask::lookup(&store.image, VIEW, FORCES.id, FORCES.kind, &key);
     found.ok().flatten().expect("the store has the key").at
 }
 
 fn lookup_by_exports(store: &Store, i: u64) -> u64 {
-    let value = exports::lookup(&store.image, FORCES, &store.key(i).to_be_bytes());
+    let value = exports::lookup(&lent(store), FORCES, &store.key(i).to_be_bytes());
     assert_eq!((value.refusal, value.found), (0, 1));
     value.at
 }
 
 fn index_by_model(store: &Store, i: u64) -> u64 {
-    let entry = ask::index(&store.image, FORCES.id, FORCES.kind, i);
+    let entry = ask::index(&store.image, VIEW, FORCES.id, FORCES.kind, i);
     entry.expect("the store has the index").value.at
 }
 
 fn index_by_exports(store: &Store, i: u64) -> u64 {
-    let entry = exports::index(&store.image, FORCES, i);
+    let entry = exports::index(&lent(store), FORCES, i);
     assert_eq!((entry.refusal, entry.number), (0, store.key(i)));
     entry.at
 }

@@ -3,12 +3,11 @@
 #include <stdio.h>
 #include <stdlib.h>
 
-#include "mvstore.h"
 #include "naive.h"
 
 enum { MAP = 1 };
 
-struct asked asked;
+struct store_asked *asked;
 static uint64_t drawn;
 
 void must(int holds, const char *what)
@@ -22,18 +21,23 @@ void must(int holds, const char *what)
 static uint64_t some_entry(void)
 {
     drawn = drawn * 6364136223846793005u + 1442695040888963407u;
-    return (drawn >> 32) % asked.entries;
+    return (drawn >> 32) % asked->entries;
 }
 
 static int64_t key_of(uint64_t i)
 {
-    return 3 * (int64_t)i - (int64_t)asked.entries;
+    return 3 * (int64_t)i - (int64_t)asked->entries;
+}
+
+static mvstore_view view(void)
+{
+    return mvstore_view_of(asked->edition);
 }
 
 static void plain_opened(struct store *s)
 {
-    const struct rules rules = {.edition = 1, .fold = 1};
-    must(!naive_open(s, asked.image, asked.bytes, rules), "plain open");
+    const struct rules rules = {.edition = (int)asked->edition, .fold = 1};
+    must(!naive_open(s, asked->image, asked->bytes, rules), "plain open");
 }
 
 uint64_t plain_open(uint64_t task, uint64_t calls)
@@ -51,7 +55,7 @@ uint64_t our_open(uint64_t task, uint64_t calls)
 {
     uint64_t sum = task;
     for (; calls; calls--) {
-        mvstore_chunk c = mvstore_newest(asked.image, asked.bytes);
+        mvstore_chunk c = mvstore_newest(asked->image, asked->bytes, view());
         must(!c.refusal, "open");
         sum += c.chunk + c.block + c.blocks + c.version;
     }
@@ -87,8 +91,8 @@ uint64_t our_lookup(uint64_t task, uint64_t calls)
         uint8_t given[8];
         for (int i = 0; i < 8; i++)
             given[i] = (uint8_t)(key >> (56 - 8 * i));
-        mvstore_value v =
-            mvstore_lookup(asked.image, asked.bytes, MAP, MVSTORE_NUMBER, given, sizeof given);
+        mvstore_value v = mvstore_lookup(asked->image, asked->bytes, view(), MAP, MVSTORE_NUMBER,
+                                         given, sizeof given);
         must(!v.refusal && v.found, "lookup");
         sum += v.at + v.len;
     }
@@ -118,7 +122,7 @@ uint64_t our_index(uint64_t task, uint64_t calls)
     uint64_t sum = 0;
     for (drawn = task; calls; calls--) {
         uint64_t i = some_entry();
-        mvstore_entry e = mvstore_index(asked.image, asked.bytes, MAP, MVSTORE_NUMBER, i);
+        mvstore_entry e = mvstore_index(asked->image, asked->bytes, view(), MAP, MVSTORE_NUMBER, i);
         must(!e.refusal && e.number == key_of(i), "index");
         sum += e.at + e.len;
     }
@@ -129,21 +133,21 @@ uint64_t plain_walk(uint64_t task, uint64_t calls)
 {
     uint64_t sum = 0;
     for (uint64_t i = 0; i < calls; i++)
-        sum += plain_entry((task * calls + i) % asked.entries);
+        sum += plain_entry((task * calls + i) % asked->entries);
     return sum;
 }
 
 uint64_t our_walk(uint64_t task, uint64_t calls)
 {
-    static mvstore_walk walk;
     uint64_t sum = 0;
     for (uint64_t i = 0; i < calls; i++) {
-        uint64_t due = (task * calls + i) % asked.entries;
+        uint64_t due = (task * calls + i) % asked->entries;
         if (due == 0)
-            walk = (mvstore_walk){0};
-        mvstore_step e = mvstore_next(asked.image, asked.bytes, MAP, MVSTORE_NUMBER, walk);
+            asked->walk = (mvstore_walk){0};
+        mvstore_step e =
+            mvstore_next(asked->image, asked->bytes, view(), MAP, MVSTORE_NUMBER, asked->walk);
         must(!e.refusal && !e.done && e.number == key_of(due), "walk");
-        walk = e.walk;
+        asked->walk = e.walk;
         sum += e.at + e.len;
     }
     return sum;
@@ -164,7 +168,7 @@ uint64_t our_examination(uint64_t task, uint64_t calls)
 {
     uint64_t entries = 0;
     for (task = 0; task < calls; task++) {
-        mvstore_report r = mvstore_examine(asked.image, asked.bytes, MAP, MVSTORE_NUMBER);
+        mvstore_report r = mvstore_examine(asked->image, asked->bytes, view(), MAP, MVSTORE_NUMBER);
         must(!r.refusal, "examination");
         entries += r.entries;
     }

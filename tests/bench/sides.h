@@ -6,12 +6,17 @@
 
 #include <stdint.h>
 
-/* The store that is asked. */
-struct asked {
+#include "mvstore.h"
+
+/* A store, and the edition that it is asked in. */
+struct store_asked {
     const uint8_t *image;
-    uint64_t bytes, entries;
+    uint64_t bytes, entries, edition;
+    mvstore_walk walk; /* as far as our side has walked */
 };
-extern struct asked asked;
+
+/* The one that is asked. */
+extern struct store_asked *asked;
 
 /* So many calls of a task, given by its number; a sum over the answers, which must be the other
  * side's. An answer that is wrong by itself ends the program. */

@@ -1,6 +1,6 @@
 //! `check` is the short run; `check --long SEED IMAGES` the long one, on that many random images;
-//! `check --store FILE DUMP` reads one more store that H2 wrote; `check --list` is the model's
-//! listing of the image on standard input.
+//! `check --store FILE DUMP [EDITION]` reads one more store that H2 wrote, under edition 1 where none
+//! is given; `check --list` is the model's listing of the image on standard input.
 
 use std::io::Read;
 use std::panic::{catch_unwind, AssertUnwindSafe};
@@ -11,6 +11,7 @@ use std::{env, io};
 
 use vihtumora_tests::check::properties::{self, Maps};
 use vihtumora_tests::check::{codes, family, hostile, lengths, many, seam, sparse, stores};
+use vihtumora_tests::model::ask::View;
 use vihtumora_tests::model::listing::listing;
 use vihtumora_tests::subject::{self, Judge, Listing};
 
@@ -40,10 +41,11 @@ fn main() -> io::Result<ExitCode> {
     let good = match words[..] {
         [] => short_run(&mut judge)?,
         ["--long", seed, images] => long_run(&mut judge, number(seed), number(images)),
-        ["--store", file, dump] => {
-            stores::check(&mut judge, Path::new(file), Path::new(dump)).map(|()| true)?
+        ["--store", file, dump] => one_store(&mut judge, file, dump, View::FIRST)?,
+        ["--store", file, dump, edition] => {
+            one_store(&mut judge, file, dump, View { edition: number(edition) })?
         }
-        _ => panic!("usage: check [--long SEED IMAGES | --store FILE DUMP | --list]"),
+        _ => panic!("usage: check [--long SEED IMAGES | --store FILE DUMP [EDITION] | --list]"),
     };
     let tally = &judge.tally;
     tally.shown.iter().for_each(|what| eprintln!("disagreement: {what}"));
@@ -53,6 +55,10 @@ fn main() -> io::Result<ExitCode> {
     );
     let good = good && tally.disagreements == 0;
     Ok(if good { ExitCode::SUCCESS } else { ExitCode::FAILURE })
+}
+
+fn one_store(judge: &mut Judge, file: &str, dump: &str, view: View) -> io::Result<bool> {
+    stores::check(judge, view, Path::new(file), Path::new(dump)).map(|()| true)
 }
 
 fn list() -> io::Result<ExitCode> {
@@ -66,10 +72,7 @@ fn list() -> io::Result<ExitCode> {
 /// call where it can occur.
 fn short_run(judge: &mut Judge) -> io::Result<bool> {
     let here = Path::new(env!("CARGO_MANIFEST_DIR"));
-    for name in stores::NAMES {
-        let [file, dump] = ["base.mv", "dump"].map(|end| here.join(format!("stores/{name}.{end}")));
-        stores::check(judge, &file, &dump)?;
-    }
+    stores::check_all(judge)?;
     family::check(judge, &here.join("family/images.txt"))?;
     codes::check(judge);
     lengths::check(judge);

@@ -1,6 +1,6 @@
 //! A line as it is to be written into its area.
 
-use crate::model::fletcher::fletcher;
+use crate::model::fletcher::{fletcher, Edition};
 
 /// What `fletcher` says.
 #[derive(Clone, Copy, Debug, PartialEq, Eq)]
@@ -16,6 +16,8 @@ pub struct LinePlan {
     /// Names and values as text, so that either can break a rule.
     pub fields: Vec<(String, String)>,
     pub sum: Sum,
+    /// The edition by which a sum is right.
+    pub edition: Edition,
     /// Bytes put between the text and the newline.
     pub trailing: Vec<u8>,
     /// Where the newline is due at the earliest: spaces fill the room before it.
@@ -29,6 +31,7 @@ impl LinePlan {
         LinePlan {
             fields: fields.iter().map(text).collect(),
             sum,
+            edition: Edition::First,
             trailing: Vec::new(),
             newline_from: 0,
             newline: true,
@@ -56,6 +59,14 @@ impl LinePlan {
         self.fields.retain(|(n, _)| n != name);
     }
 
+    /// Gives the text before the sum an odd or an even length, by the field `ee` where it takes one.
+    pub fn set_odd(&mut self, odd: bool) {
+        let bare = LinePlan { sum: Sum::None, ..self.clone() };
+        if bare.text().len() % 2 != usize::from(odd) {
+            self.add("ee", "1");
+        }
+    }
+
     /// The text with its sum, before trailing bytes.
     pub fn text(&self) -> Vec<u8> {
         let fields: Vec<String> = self.fields.iter().map(|(n, v)| format!("{n}:{v}")).collect();
@@ -63,7 +74,7 @@ impl LinePlan {
         match self.sum {
             Sum::None => text.into_bytes(),
             Sum::Xor(bits) => {
-                let sum = fletcher(text.as_bytes()) ^ bits;
+                let sum = fletcher(self.edition, text.as_bytes()) ^ bits;
                 format!("{text},fletcher:{sum:x}").into_bytes()
             }
         }

@@ -3,6 +3,7 @@
 use super::chunk::{ChunkPlan, ChunkStart};
 use super::line::{LinePlan, Sum};
 use super::page::PagePlan;
+use crate::model::fletcher::Edition;
 use crate::model::image::BLOCK;
 
 /// A page of a plan: its chunk's number in the plan and its number there.
@@ -53,6 +54,12 @@ impl Plan {
             let value = from.fields.iter().find(|(n, _)| n == name).expect("a chunk has it");
             self.headers[copy].set_text(name, &value.1);
         }
+    }
+
+    /// Writes every sum by an edition.
+    pub fn set_edition(&mut self, edition: Edition) {
+        let footers = self.chunks.iter_mut().map(|chunk| &mut chunk.footer);
+        self.headers.iter_mut().chain(footers).for_each(|line| line.edition = edition);
     }
 
     pub fn put(&mut self, chunk: usize, page: PagePlan) -> PageRef {

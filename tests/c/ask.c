@@ -12,6 +12,7 @@
 /* What each call can give, as mvstore.h says above it: bit n is refusal n, bit 0 an answer. */
 #define BIT(n) (UINT32_C(1) << (n))
 enum {
+    of_newest = (BIT(MVSTORE_NO_START + 1) - 1) ^ BIT(MVSTORE_BAD_ARGUMENT),
     of_lookup = (BIT(MVSTORE_TOO_DEEP + 1) - 1) | BIT(MVSTORE_NOT_A_NUMBER),
     of_map = of_lookup | BIT(MVSTORE_NO_SUCH_NAME),
     of_copy = of_lookup | BIT(MVSTORE_AREA_TOO_SMALL),
@@ -21,8 +22,22 @@ enum {
     of_examine = of_next
 };
 
+static uint64_t edition = MVSTORE_EDITION_1;
+
+void ask_in(uint64_t asked)
+{
+    edition = asked;
+}
+
+mvstore_view ask_view(void)
+{
+    return mvstore_view_of(edition);
+}
+
 static int gives(uint32_t call, uint32_t refusal)
 {
+    if (edition != MVSTORE_EDITION_1 && edition != MVSTORE_EDITION_2)
+        return refusal == MVSTORE_BAD_ARGUMENT;
     return refusal <= MVSTORE_AREA_TOO_SMALL && (call & BIT(refusal)) != 0;
 }
 
@@ -56,9 +71,9 @@ static lent sealed(const void *bytes, size_t len)
 
 mvstore_chunk ask_newest(lent image)
 {
-    mvstore_chunk c = mvstore_newest(image.bytes, image.len);
-    int refused = c.refusal >= MVSTORE_BAD_IMAGE_SIZE && c.refusal <= MVSTORE_NO_START;
-    CHECK(c.refusal == 0 || refused);
+    mvstore_chunk c = mvstore_newest(image.bytes, image.len, ask_view());
+    int refused = c.refusal != 0;
+    CHECK(gives(of_newest, c.refusal));
     CHECK(!refused || (c.chunk == 0 && c.block == 0 && c.blocks == 0 && c.version == 0));
     CHECK(refused || (c.chunk < 1 << 26 && c.block >= 2 && c.blocks >= 1));
     CHECK(refused || (uint64_t)c.block + c.blocks <= image.len / 4096);
@@ -68,7 +83,7 @@ mvstore_chunk ask_newest(lent image)
 mvstore_id ask_map(lent image, const void *name, size_t len)
 {
     lent n = sealed(name, len);
-    mvstore_id id = mvstore_map(image.bytes, image.len, n.bytes, n.len);
+    mvstore_id id = mvstore_map(image.bytes, image.len, ask_view(), n.bytes, n.len);
     lent_free(&n);
     CHECK(gives(of_map, id.refusal));
     CHECK(id.refusal != 0 ? id.id == 0 : id.id >= 1 && id.id <= 0x7fffffff);
@@ -78,7 +93,8 @@ mvstore_id ask_map(lent image, const void *name, size_t len)
 mvstore_value ask_lookup(lent image, asked_map m, const void *key, size_t len)
 {
     lent k = sealed(key, len);
-    mvstore_value v = mvstore_lookup(image.bytes, image.len, m.id, m.kind, k.bytes, k.len);
+    mvstore_value v =
+        mvstore_lookup(image.bytes, image.len, ask_view(), m.id, m.kind, k.bytes, k.len);
     lent_free(&k);
     claim_value(image, v, of_lookup);
     return v;
@@ -104,7 +120,7 @@ mvstore_value ask_copy(lent image, asked_map m, const void *key, size_t len, siz
     lent k = sealed(key, len), area = lent_zeros(room);
     if (room != 0)
         memset(area.bytes, FILL, room);
-    mvstore_value v = mvstore_copy(image.bytes, image.len, m.id, m.kind, k.bytes, k.len,
+    mvstore_value v = mvstore_copy(image.bytes, image.len, ask_view(), m.id, m.kind, k.bytes, k.len,
                                    area.bytes, area.len);
     claim_value(image, v, of_copy);
     CHECK(v.len <= room);
@@ -119,7 +135,7 @@ mvstore_value ask_copy(lent image, asked_map m, const void *key, size_t len, siz
 
 mvstore_entry ask_index(lent image, asked_map m, uint64_t index)
 {
-    mvstore_entry e = mvstore_index(image.bytes, image.len, m.id, m.kind, index);
+    mvstore_entry e = mvstore_index(image.bytes, image.len, ask_view(), m.id, m.kind, index);
     CHECK(gives(of_index, e.refusal));
     CHECK(e.refusal == 0 || (e.number == 0 && e.at == 0 && e.len == 0));
     CHECK(e.refusal == 0 || (e.key_at == 0 && e.key_len == 0));
@@ -130,7 +146,7 @@ mvstore_entry ask_index(lent image, asked_map m, uint64_t index)
 
 mvstore_count_of ask_count(lent image, asked_map m)
 {
-    mvstore_count_of c = mvstore_count(image.bytes, image.len, m.id, m.kind);
+    mvstore_count_of c = mvstore_count(image.bytes, image.len, ask_view(), m.id, m.kind);
     CHECK(gives(of_count, c.refusal));
     CHECK(c.refusal == 0 || c.count == 0);
     return c;
@@ -159,7 +175,7 @@ static int given_again(mvstore_walk w, mvstore_step s)
 
 mvstore_step ask_next(lent image, asked_map m, mvstore_walk walk)
 {
-    mvstore_step s = mvstore_next(image.bytes, image.len, m.id, m.kind, walk);
+    mvstore_step s = mvstore_next(image.bytes, image.len, ask_view(), m.id, m.kind, walk);
     int entry = s.refusal == 0 && s.done == 0;
     CHECK(recorded(walk) ? given_again(walk, s) : gives(of_next, s.refusal));
     CHECK(s.done <= 1 && (s.refusal == 0 || s.done == 0));
@@ -173,7 +189,7 @@ mvstore_step ask_next(lent image, asked_map m, mvstore_walk walk)
 
 mvstore_report ask_examine(lent image, asked_map m)
 {
-    mvstore_report r = mvstore_examine(image.bytes, image.len, m.id, m.kind);
+    mvstore_report r = mvstore_examine(image.bytes, image.len, ask_view(), m.id, m.kind);
     CHECK(gives(of_examine, r.refusal));
     CHECK(r.refusal == 0 || (r.depth == 0 && r.entries == 0 && r.pages == 0));
     CHECK(r.depth <= 16 && r.depth <= r.pages);

@@ -2,7 +2,8 @@
  *
  * Each claims what holds of every answer: a refusal is one that the call can
  * give and has zeros everywhere else, Absent too; places lie inside the image;
- * a copy writes the value and leaves every other byte of its area.
+ * a copy writes the value and leaves every other byte of its area; an edition
+ * that is none is refused with 1.
  */
 #ifndef ASK_H
 #define ASK_H
@@ -14,6 +15,10 @@ typedef struct asked_map {
     uint64_t id;
     uint64_t kind;
 } asked_map;
+
+/* The edition that is asked in from here on; at first it is 1. */
+void ask_in(uint64_t edition);
+mvstore_view ask_view(void);
 
 mvstore_chunk ask_newest(lent image);
 mvstore_id ask_map(lent image, const void *name, size_t len);

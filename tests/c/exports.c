@@ -1,17 +1,19 @@
 /* exports.c - every export of mvstore.h, at both ends of every argument.
  *
- *   exports [STORE DUMP]...
+ *   exports [EDITION STORE DUMP]...
  *
- * First on the small store of small.h, then on stores that H2 wrote, against
- * what they truly hold.
+ * First on the small store of small.h, in both editions, then on stores that H2
+ * wrote, in the edition of their sums, against what they truly hold.
  */
 #include <stdio.h>
+#include <stdlib.h>
 #include <string.h>
 
 #include "ask.h"
 #include "check.h"
 #include "contents.h"
 #include "dump.h"
+#include "editions.h"
 #include "images.h"
 #include "number.h"
 #include "small.h"
@@ -177,13 +179,13 @@ static void check_areas(lent image)
     number_key(INT64_MIN, key);
     mvstore_value v = ask_copy(image, numbers, key, 8, 0);
     CHECK(v.refusal == 0 && v.found == 1 && v.len == 0);
-    v = mvstore_copy(image.bytes, image.len, 1, MVSTORE_NUMBER, key, 8, NULL, 0);
+    v = mvstore_copy(image.bytes, image.len, ask_view(), 1, MVSTORE_NUMBER, key, 8, NULL, 0);
     CHECK(v.refusal == 0 && v.found == 1 && v.len == 0);
     number_key(5, key);
-    v = mvstore_copy(image.bytes, image.len, 1, MVSTORE_NUMBER, key, 8, NULL, 0);
+    v = mvstore_copy(image.bytes, image.len, ask_view(), 1, MVSTORE_NUMBER, key, 8, NULL, 0);
     CHECK(v.refusal == 0 && v.found == 0);
     number_key(0, key);
-    v = mvstore_copy(image.bytes, image.len, 1, MVSTORE_NUMBER, key, 8, NULL, 0);
+    v = mvstore_copy(image.bytes, image.len, ask_view(), 1, MVSTORE_NUMBER, key, 8, NULL, 0);
     CHECK(v.refusal == MVSTORE_AREA_TOO_SMALL);
 }
 
@@ -237,10 +239,11 @@ static void check_texts_of_refusals(void)
             CHECK(strcmp(mvstore_refusal_text(i), mvstore_refusal_text(k)) != 0);
 }
 
-static void check_small(void)
+static void check_small(uint64_t edition, const char *about)
 {
-    lent image = small_store();
-    check_about("the small store");
+    lent image = small_store(edition);
+    check_about(about);
+    ask_in(edition);
     check_map_and_kind(image);
     check_number_keys(image);
     check_text_keys(image);
@@ -252,15 +255,18 @@ static void check_small(void)
     check_depth(image);
     walks_check_small(image);
     images_check(image);
+    editions_check_other(image);
     lent_free(&image);
 }
 
-static void check_store(const char *store, const char *dumped)
+static void check_store(uint64_t edition, const char *store, const char *dumped)
 {
     lent image = lent_file(store);
     dump d = dump_read(dumped);
     lent_seal(&image);
     check_about(store);
+    ask_in(edition);
+    editions_check_other(image);
     images_check_newest(image, &d);
     contents_check(image, &d);
     walks_check(image, &d);
@@ -270,12 +276,14 @@ static void check_store(const char *store, const char *dumped)
 
 int main(int argc, char **argv)
 {
-    if (argc % 2 == 0)
-        return fprintf(stderr, "usage: exports [STORE DUMP]...\n"), 2;
+    if (argc % 3 != 1)
+        return fprintf(stderr, "usage: exports [EDITION STORE DUMP]...\n"), 2;
     check_about("the header");
     check_texts_of_refusals();
-    check_small();
-    for (int i = 1; i < argc; i += 2)
-        check_store(argv[i], argv[i + 1]);
+    check_small(MVSTORE_EDITION_1, "the small store, edition 1");
+    check_small(MVSTORE_EDITION_2, "the small store, edition 2");
+    editions_check();
+    for (int i = 1; i < argc; i += 3)
+        check_store(strtoull(argv[i], NULL, 10), argv[i + 1], argv[i + 2]);
     return check_status("exports");
 }

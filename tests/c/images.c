@@ -93,14 +93,15 @@ static void check_largest(lent image)
 
 static void check_null(lent image)
 {
-    mvstore_value v = mvstore_lookup(image.bytes, image.len, 2, MVSTORE_TEXT, NULL, 0);
+    mvstore_value v = mvstore_lookup(image.bytes, image.len, ask_view(), 2, MVSTORE_TEXT, NULL, 0);
     CHECK(v.refusal == 0 && v.found == 1 && v.len == 1);
-    v = mvstore_lookup(image.bytes, image.len, 1, MVSTORE_NUMBER, NULL, 0);
+    v = mvstore_lookup(image.bytes, image.len, ask_view(), 1, MVSTORE_NUMBER, NULL, 0);
     CHECK(v.refusal == MVSTORE_BAD_ARGUMENT);
-    CHECK(mvstore_map(image.bytes, image.len, NULL, 0).refusal == MVSTORE_BAD_ARGUMENT);
-    v = mvstore_copy(NULL, 0, 2, MVSTORE_TEXT, NULL, 0, NULL, 0);
+    mvstore_id id = mvstore_map(image.bytes, image.len, ask_view(), NULL, 0);
+    CHECK(id.refusal == MVSTORE_BAD_ARGUMENT);
+    v = mvstore_copy(NULL, 0, ask_view(), 2, MVSTORE_TEXT, NULL, 0, NULL, 0);
     CHECK(v.refusal == MVSTORE_BAD_IMAGE_SIZE);
-    CHECK(mvstore_newest(NULL, 0).refusal == MVSTORE_BAD_IMAGE_SIZE);
+    CHECK(mvstore_newest(NULL, 0, ask_view()).refusal == MVSTORE_BAD_IMAGE_SIZE);
 }
 
 void images_check(lent image)

@@ -11,11 +11,11 @@
 #define BLOCK 4096
 #define CHUNK ((size_t)2 * BLOCK) /* where the chunk begins */
 
-static void put_summed(uint8_t *at, const char *text)
+void small_line(uint8_t *at, const char *text, uint64_t edition)
 {
     char line[256];
     int len = snprintf(line, sizeof line, "%s,fletcher:%" PRIx32 "\n", text,
-                       fletcher((const uint8_t *)text, strlen(text)));
+                       fletcher((const uint8_t *)text, strlen(text), edition));
     memcpy(at, line, (size_t)len);
 }
 
@@ -251,16 +251,16 @@ static const uint8_t *put_pages(uint8_t *at, const uint8_t *image)
     return p.root;
 }
 
-lent small_store(void)
+lent small_store(uint64_t edition)
 {
     lent l = lent_zeros(SMALL_LEN);
-    const uint8_t *root = put_pages(l.bytes + CHUNK + 256, l.bytes);
+    const uint8_t *root = put_pages(l.bytes + CHUNK + SMALL_PAGES, l.bytes);
     const char *header = "H:2,block:2,blockSize:1000,chunk:1,format:1,version:1";
-    put_summed(l.bytes, header);
-    put_summed(l.bytes + BLOCK, header);
+    small_line(l.bytes, header, edition);
+    small_line(l.bytes + BLOCK, header, edition);
     sprintf((char *)l.bytes + CHUNK, "chunk:1,block:2,len:1,next:3,pages:e,root:%" PRIx64
             ",version:1\n", (uint64_t)position(1, l.bytes, root, 1));
-    put_summed(l.bytes + SMALL_LEN - 128, "chunk:1,block:2,version:1");
+    small_line(l.bytes + SMALL_LEN - 128, "chunk:1,block:2,version:1", edition);
     lent_seal(&l);
     return l;
 }

@@ -18,13 +18,17 @@
 #include "lent.h"
 
 #define SMALL_LEN ((size_t)3 * 4096)
+#define SMALL_PAGES 256 /* where in the chunk the pages begin; the first is map 1's */
 
 /* The metadata: the root's children, the last one's entries, and by the counts all of them. */
 #define SMALL_CHILDREN 10
 #define SMALL_NAMES 17
 #define SMALL_COUNT (SMALL_CHILDREN - 1 + SMALL_NAMES)
 
-/* Sealed: a write to it faults. */
-lent small_store(void);
+/* With the sums of this edition. Sealed: a write to it faults. */
+lent small_store(uint64_t edition);
+
+/* A line with its sum of this edition, and a newline. */
+void small_line(uint8_t *at, const char *text, uint64_t edition);
 
 #endif

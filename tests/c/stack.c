@@ -4,7 +4,8 @@
  *
  * An export answers all questions in a thread that is made with 128 KiB of
  * stack, which is painted before: questions about seven maps of each image, as
- * either kind, and about every map of the small store. The use is how far below
+ * either kind, and about every map of the small store, in each edition that the
+ * image opens in. The use is how far below
  * the thread's first frame the paint is gone; `nothing` shows what of it is the
  * thread's own. The exit status is 1 if a use is not below LIMIT bytes. What
  * takes more than the thread has faults.
@@ -27,6 +28,7 @@
 
 typedef struct question {
     lent image;
+    mvstore_view view;
     uint64_t map;
     uint64_t kind;
     uint64_t index;
@@ -50,44 +52,45 @@ static void ask_nothing(const question *q)
 static void ask_newest(const question *q)
 {
     if (q->first)
-        sink = mvstore_newest(q->image.bytes, q->image.len).version;
+        sink = mvstore_newest(q->image.bytes, q->image.len, q->view).version;
 }
 
 static void ask_lookup(const question *q)
 {
-    sink = mvstore_lookup(q->image.bytes, q->image.len, q->map, q->kind, q->key, q->len).at;
+    sink = mvstore_lookup(q->image.bytes, q->image.len, q->view, q->map, q->kind, q->key,
+                          q->len).at;
 }
 
 static void ask_copy(const question *q)
 {
     static uint8_t area[65535];
-    sink = mvstore_copy(q->image.bytes, q->image.len, q->map, q->kind, q->key, q->len,
+    sink = mvstore_copy(q->image.bytes, q->image.len, q->view, q->map, q->kind, q->key, q->len,
                         area, sizeof area).at;
 }
 
 static void ask_index(const question *q)
 {
-    sink = mvstore_index(q->image.bytes, q->image.len, q->map, q->kind, q->index).at;
+    sink = mvstore_index(q->image.bytes, q->image.len, q->view, q->map, q->kind, q->index).at;
 }
 
 static void ask_count(const question *q)
 {
     if (q->first)
-        sink = mvstore_count(q->image.bytes, q->image.len, q->map, q->kind).count;
+        sink = mvstore_count(q->image.bytes, q->image.len, q->view, q->map, q->kind).count;
 }
 
 static void ask_next(const question *q)
 {
     mvstore_walk walk = {0};
     for (int i = 0; q->first && i < STEPS && walk.last == 0; i++)
-        walk = mvstore_next(q->image.bytes, q->image.len, q->map, q->kind, walk).walk;
+        walk = mvstore_next(q->image.bytes, q->image.len, q->view, q->map, q->kind, walk).walk;
     sink = walk.depth;
 }
 
 static void ask_examine(const question *q)
 {
     if (q->first)
-        sink = mvstore_examine(q->image.bytes, q->image.len, q->map, q->kind).entries;
+        sink = mvstore_examine(q->image.bytes, q->image.len, q->view, q->map, q->kind).entries;
 }
 
 /* A name of the stores and of the family, one of the small store, and one as long as may be. */
@@ -97,9 +100,9 @@ static void ask_map(const question *q)
     if (!q->first)
         return;
     memset(longest, 'x', sizeof longest);
-    sink = mvstore_map(q->image.bytes, q->image.len, (const uint8_t *)"forces", 6).id;
-    sink = mvstore_map(q->image.bytes, q->image.len, (const uint8_t *)"6", 1).id;
-    sink = mvstore_map(q->image.bytes, q->image.len, longest, sizeof longest).id;
+    sink = mvstore_map(q->image.bytes, q->image.len, q->view, (const uint8_t *)"forces", 6).id;
+    sink = mvstore_map(q->image.bytes, q->image.len, q->view, (const uint8_t *)"6", 1).id;
+    sink = mvstore_map(q->image.bytes, q->image.len, q->view, longest, sizeof longest).id;
 }
 
 static void add(list *l, question q)
@@ -111,17 +114,17 @@ static void add(list *l, question q)
 }
 
 /* Entries from the first to the last, and a key as long as may be. */
-static void add_map(list *l, lent image, uint64_t map, uint64_t kind)
+static void add_map(list *l, lent image, mvstore_view view, uint64_t map, uint64_t kind)
 {
-    question q = {.image = image, .map = map, .kind = kind, .first = 1};
-    uint64_t count = mvstore_count(image.bytes, image.len, map, kind).count;
+    question q = {.image = image, .view = view, .map = map, .kind = kind, .first = 1};
+    uint64_t count = mvstore_count(image.bytes, image.len, view, map, kind).count;
     uint64_t step = count / ENTRIES + 1;
     memset(q.key, '~', sizeof q.key);
     q.len = kind == MVSTORE_NUMBER ? 8 : sizeof q.key;
     add(l, q);
     q.first = 0;
     for (q.index = 0; q.index < count; q.index += step) {
-        mvstore_entry e = mvstore_index(image.bytes, image.len, map, kind, q.index);
+        mvstore_entry e = mvstore_index(image.bytes, image.len, view, map, kind, q.index);
         number_key(e.number, q.key);
         if (kind == MVSTORE_TEXT) {
             q.len = (size_t)e.key_len;
@@ -132,12 +135,23 @@ static void add_map(list *l, lent image, uint64_t map, uint64_t kind)
 }
 
 /* The maps with these ids, as both kinds; the metadata as text, and a chunk looked up in it. */
-static void add_image(list *l, lent image, uint64_t last)
+static void add_maps(list *l, lent image, mvstore_view view, uint64_t last)
 {
     for (uint64_t map = 0; map <= last; map++)
         for (uint64_t kind = map == 0; kind <= 1; kind++)
-            add_map(l, image, map, kind);
-    add(l, (question){.image = image, .kind = MVSTORE_TEXT, .key = "chunk.2", .len = 7});
+            add_map(l, image, view, map, kind);
+    add(l, (question){image, view, 0, MVSTORE_TEXT, 0, "chunk.2", 7, 0});
+}
+
+/* One that opens in neither edition is asked in edition 1. */
+static void add_image(list *l, lent image, uint64_t last)
+{
+    const mvstore_view first = {MVSTORE_EDITION_1}, second = {MVSTORE_EDITION_2};
+    int opens = mvstore_newest(image.bytes, image.len, second).refusal == 0;
+    if (!opens || mvstore_newest(image.bytes, image.len, first).refusal == 0)
+        add_maps(l, image, first, last);
+    if (opens)
+        add_maps(l, image, second, last);
 }
 
 typedef struct run {
@@ -203,7 +217,8 @@ int main(int argc, char **argv)
     list l = {NULL, 0};
     if (argc < 2)
         return fprintf(stderr, "usage: stack LIMIT IMAGE...\n"), 2;
-    add_image(&l, small_store(), 14);
+    add_image(&l, small_store(MVSTORE_EDITION_1), 14);
+    add_image(&l, small_store(MVSTORE_EDITION_2), 14);
     for (int i = 2; i < argc; i++)
         add_image(&l, lent_file(argv[i]), 6);
     int above = report(&l, (size_t)strtoull(argv[1], NULL, 10));

@@ -5,6 +5,7 @@ use crate::build::plan::Plan;
 use crate::build::tree::{number_key, Entries, MapPlan};
 use crate::family::questions::*;
 use crate::family::standard::METADATA_PLAN;
+use crate::model::ask::View;
 use crate::model::image::BLOCK;
 use crate::model::page::LONGEST_VALUE;
 use crate::subject::Judge;
@@ -37,7 +38,7 @@ fn claim_length(judge: &mut Judge, code: u64, length: u64, good: bool) {
     let position = plan.position(leaf);
     plan.chunks[0].header.set("root", position);
     let image = plan.image();
-    judge.image(&format!("code {code}, length {length}"), &image);
+    judge.image(&format!("code {code}, length {length}"), &image, View::FIRST);
     let due = if good { format!("report {entries} 1 1") } else { "refused 7".to_string() };
     let reply = judge.ask(&image, &examine()).to_string();
     judge.claim(reply == due, || format!("code {code}, length {length}: {reply}, due {due}"));

@@ -3,13 +3,14 @@
 
 use crate::family::questions::*;
 use crate::lookups::{hostile, Path};
+use crate::model::ask::View;
 use crate::subject::{Judge, Question};
 
 pub fn check(judge: &mut Judge) {
     for chunks in [7, 8, 9] {
         for (name, path) in [("level", Path::Level), ("rising", Path::Rising)] {
             let image = hostile(chunks, path);
-            judge.image(&format!("hostile, {chunks} chunks, {name}"), &image);
+            judge.image(&format!("hostile, {chunks} chunks, {name}"), &image, View::FIRST);
             questions(chunks).iter().for_each(|question| {
                 judge.ask(&image, question);
             });

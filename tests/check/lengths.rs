@@ -1,8 +1,10 @@
 //! The listing where its input ends: the standard store, cut, or with zeros behind it.
 
 use crate::family::base::standard_base;
+use crate::family::questions::list;
+use crate::model::ask::View;
 use crate::model::listing::{listing, LONGEST_INPUT};
-use crate::subject::{Answer, Judge, Question};
+use crate::subject::{Answer, Judge};
 
 const SHORTEST: usize = 3 * 4096;
 
@@ -15,8 +17,8 @@ pub fn check(judge: &mut Judge) {
     for (length, due) in refused.into_iter().chain(listed) {
         let mut image = store.clone();
         image.resize(length, 0);
-        judge.image(&format!("the standard store, {length} bytes"), &image);
-        let reply = judge.ask(&image, &Question::List);
+        judge.image(&format!("the standard store, {length} bytes"), &image, View::FIRST);
+        let reply = judge.ask(&image, &list());
         let same = reply.answer == Answer::Text(due.to_string());
         judge.claim(same, || format!("the standard store, {length} bytes: {reply}"));
     }

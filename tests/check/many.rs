@@ -6,6 +6,8 @@ use crate::build::plan::Plan;
 use crate::build::tree::{Entries, MapPlan, Placed};
 use crate::family::questions::*;
 use crate::family::standard::{chunk_entry, numbered, METADATA_PLAN};
+use crate::model::ask::View;
+use crate::model::fletcher::Edition;
 use crate::subject::Judge;
 
 struct Many {
@@ -27,8 +29,13 @@ pub fn check(judge: &mut Judge) {
     let keys: Vec<i64> = (1..REMEMBERED.chunks as i64).collect();
     let image = many(&REMEMBERED, &keys).0.image();
     let entries = numbered(&keys);
-    judge.image("many chunks", &image);
-    sweep(judge, &image, &Expected { map: FORCES, entries: &entries }, "many chunks");
+    judge.image("many chunks", &image, View::FIRST);
+    sweep(
+        judge,
+        &image,
+        &Expected { view: View::FIRST, map: FORCES, entries: &entries },
+        "many chunks",
+    );
     faults(judge, &REMEMBERED);
     faults(judge, &TOO_MANY);
 }
@@ -42,6 +49,7 @@ fn faults(judge: &mut Judge, of: &Many) {
     for late in [of.late - 2, of.late - 1, of.late, of.chunks - 2] {
         wrong_check_value(judge, plan.clone(), &leaves[late]);
     }
+    other_edition(judge, plan, &leaves[of.chunks - 2]);
 }
 
 /// A leaf of one entry in each chunk but the first; the roots in the newest.
@@ -73,8 +81,21 @@ fn many(of: &Many, keys: &[i64]) -> (Plan, Vec<Placed>) {
 fn wrong_check_value(judge: &mut Judge, mut plan: Plan, leaf: &Placed) {
     plan.page(leaf.page).check_xor = 1;
     let what = format!("many chunks, a fault in number {}", leaf.page.chunk);
+    claim_refused(judge, &plan, &what, 8);
+}
+
+/// A chunk that stands by the other edition, located late.
+fn other_edition(judge: &mut Judge, mut plan: Plan, leaf: &Placed) {
+    let footer = &mut plan.chunks[leaf.page.chunk].footer;
+    footer.edition = Edition::Second;
+    footer.set_odd(true);
+    let what = format!("many chunks, the other edition in number {}", leaf.page.chunk);
+    claim_refused(judge, &plan, &what, 5);
+}
+
+fn claim_refused(judge: &mut Judge, plan: &Plan, what: &str, number: u8) {
     let image = plan.image();
-    judge.image(&what, &image);
+    judge.image(what, &image, View::FIRST);
     let examined = judge.ask(&image, &examine());
-    judge.claim(examined.refusal() == Some(8), || format!("{what}: {examined}"));
+    judge.claim(examined.refusal() == Some(number), || format!("{what}: {examined}"));
 }

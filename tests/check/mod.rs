@@ -1,6 +1,7 @@
 //! What a run checks, each through the `Judge`.
 
 pub mod codes;
+pub mod editions;
 pub mod family;
 pub mod hostile;
 pub mod lengths;

@@ -10,6 +10,7 @@
 use super::stray;
 use super::sweep::{sweep, Expected};
 use crate::build::tree::Entries;
+use crate::model::ask::View;
 use crate::model::examine::Report;
 use crate::model::image::Span;
 use crate::model::index::{Entry, GivenKey};
@@ -19,7 +20,7 @@ use crate::model::walk::FRESH;
 use crate::model::{ask, sound};
 use crate::random::store::{store, RandomStore};
 use crate::random::{planned, raw, Random};
-use crate::subject::{Answer, Judge, MapArgs, Question};
+use crate::subject::{Answer, Asks, Judge, MapArgs, Reply};
 
 /// Longer lists are not walked: a damaged map can hold the same pages very often.
 const LONGEST_WALK: usize = 400;
@@ -32,19 +33,22 @@ pub struct Maps {
     pub not_found: u64,
 }
 
-/// One random image of a seed.
+/// One random image of a seed, asked under the edition of its sums, and opened under the other too.
 pub fn check(judge: &mut Judge, maps: &mut Maps, seed: u64, number: u64) {
     let mut random = Random::new(seed ^ number.wrapping_mul(0x2545_f491_4f6c_dd1d));
     let store = store(&mut random);
-    let (image, damaged) = damaged_image(&mut random, &store);
+    let (bytes, damaged) = damaged_image(&mut random, &store);
+    let image = Viewed { bytes: &bytes, view: View::of(store.edition) };
     let what = format!("seed {seed} image {number}");
-    judge.image(&what, &image);
-    judge.ask(&image, &Question::List);
+    judge.image(&what, image.bytes, image.view);
+    judge.ask(image.bytes, &Asks::Open.under(View::of(store.edition.other())));
+    image.ask(judge, Asks::List);
     for known in &store.maps {
-        judge.ask(&image, &Question::Find { name: known.name.clone().into_bytes() });
-        stray::questions(&mut random, known.map, &known.entries).iter().for_each(|question| {
-            judge.ask(&image, question);
-        });
+        image.ask(judge, Asks::Find { name: known.name.clone().into_bytes() });
+        for asks in stray::questions(&mut random, known.map, &known.entries) {
+            let view = stray::view(&mut random, image.view);
+            judge.ask(image.bytes, &asks.under(view));
+        }
         let found = check_map(judge, maps, &image, known.map, &what);
         if !damaged && store.plain {
             let same = found.as_ref() == Some(&known.entries);
@@ -52,6 +56,18 @@ pub fn check(judge: &mut Judge, maps: &mut Maps, seed: u64, number: u64) {
         }
     }
     check_map(judge, maps, &image, MapArgs { id: 0, kind: 1 }, &what);
+}
+
+/// An image and the view under which it is asked.
+pub struct Viewed<'a> {
+    pub bytes: &'a [u8],
+    pub view: View,
+}
+
+impl Viewed<'_> {
+    fn ask(&self, judge: &mut Judge, asks: Asks) -> Reply {
+        judge.ask(self.bytes, &asks.under(self.view))
+    }
 }
 
 /// A quarter is undamaged; the others have damage of either sort or both.
@@ -63,7 +79,8 @@ fn damaged_image(random: &mut Random, store: &RandomStore) -> (Vec<u8>, bool) {
     }
     let mut image = plan.image();
     if sort & 2 != 0 {
-        (0..random.range(1, 2)).for_each(|_| raw::damage(random, &mut image));
+        let times = random.range(1, 2);
+        (0..times).for_each(|_| raw::damage(random, store.edition, &mut image));
     }
     (image, sort != 0)
 }
@@ -72,14 +89,14 @@ fn damaged_image(random: &mut Random, store: &RandomStore) -> (Vec<u8>, bool) {
 fn check_map(
     judge: &mut Judge,
     maps: &mut Maps,
-    image: &[u8],
+    image: &Viewed,
     map: MapArgs,
     what: &str,
 ) -> Option<Entries> {
     let what = format!("{what}, map {}", map.id);
-    let examined = judge.ask(image, &Question::Examine { map });
+    let examined = image.ask(judge, Asks::Examine { map });
     let sound = examination_agrees(judge, image, map, &what);
-    let Ok((opened, found)) = ask::map(image, map.id, map.kind) else {
+    let Ok((opened, found)) = ask::map(image.bytes, image.view, map.id, map.kind) else {
         maps.not_found += 1;
         return None;
     };
@@ -94,16 +111,17 @@ fn check_map(
     maps.sound += 1;
     let report = Answer::Report(report(&reached));
     judge.claim(report == examined.answer, || format!("{what}: {report}, but {examined}"));
-    let entries: Entries = reached.entry_list().map(|entry| contents(image, &entry)).collect();
-    sweep(judge, image, &Expected { map, entries: &entries }, &what);
+    let contents = |entry| contents(image.bytes, &entry);
+    let entries: Entries = reached.entry_list().map(contents).collect();
+    sweep(judge, image.bytes, &Expected { view: image.view, map, entries: &entries }, &what);
     Some(entries)
 }
 
 /// Whether a map is sound, after the examination was held against it. What is no map is not.
-pub fn examination_agrees(judge: &mut Judge, image: &[u8], map: MapArgs, what: &str) -> bool {
-    let found = ask::map(image, map.id, map.kind);
+pub fn examination_agrees(judge: &mut Judge, image: &Viewed, map: MapArgs, what: &str) -> bool {
+    let found = ask::map(image.bytes, image.view, map.id, map.kind);
     let sound = found.is_ok_and(|(opened, found)| sound::sound(&opened, &found));
-    let passes = ask::examine(image, map.id, map.kind).is_ok();
+    let passes = ask::examine(image.bytes, image.view, map.id, map.kind).is_ok();
     judge.claim(sound == passes, || format!("{what}: sound is {sound}, the examination {passes}"));
     sound
 }
@@ -118,7 +136,7 @@ fn walkable(reached: &Reached) -> bool {
 }
 
 /// Sound or not, such a map is walked through its entry list.
-fn check_walk(judge: &mut Judge, image: &[u8], map: MapArgs, reached: &Reached, what: &str) {
+fn check_walk(judge: &mut Judge, image: &Viewed, map: MapArgs, reached: &Reached, what: &str) {
     let list: Vec<Entry> = reached.entry_list().take(LONGEST_WALK + 1).collect();
     if list.len() > LONGEST_WALK {
         return;
@@ -126,7 +144,7 @@ fn check_walk(judge: &mut Judge, image: &[u8], map: MapArgs, reached: &Reached, 
     let due = list.iter().map(|&entry| Answer::Entry(entry)).chain([Answer::Done]);
     let mut state = FRESH;
     for answer in due {
-        let reply = judge.ask(image, &Question::Walk { map, state });
+        let reply = image.ask(judge, Asks::Walk { map, state });
         judge.claim(reply.answer == answer, || format!("{what}: walk {reply}, due {answer}"));
         state = reply.state.unwrap_or(state);
     }

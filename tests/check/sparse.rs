@@ -10,8 +10,9 @@ use crate::build::plan::{write, PageRef, Plan};
 use crate::build::tree::{Entries, MapPlan, Placed};
 use crate::family::questions::*;
 use crate::family::standard::{chunk_entry, numbered, METADATA_PLAN};
+use crate::model::ask::View;
 use crate::model::image::BLOCK;
-use crate::subject::{Judge, Question};
+use crate::subject::Judge;
 
 /// "It has 3 to 268,435,456 blocks."
 const MOST_BLOCKS: u64 = 268_435_456;
@@ -56,11 +57,16 @@ fn far_chunks(judge: &mut Judge, named: bool) -> io::Result<()> {
     let root = FORCES_PLAN.inner(&mut plan, newest, &leaves).page;
     add_metadata(&mut plan, newest, root);
     let image = mapped(&plan)?;
-    let opened = judge.image("far chunks", &image).to_string();
+    let opened = judge.image("far chunks", &image, View::FIRST).to_string();
     let due = format!("chunk 6 block {} blocks 1 version 6", MOST_BLOCKS - 1);
     judge.claim(opened == due, || format!("far chunks: {opened}"));
     let entries = numbered(&keys.concat());
-    sweep(judge, &image, &Expected { map: FORCES, entries: &entries }, "far chunks");
+    sweep(
+        judge,
+        &image,
+        &Expected { view: View::FIRST, map: FORCES, entries: &entries },
+        "far chunks",
+    );
     every_call().iter().for_each(|question| {
         judge.ask(&image, question);
     });
@@ -80,7 +86,7 @@ fn add_metadata(plan: &mut Plan, newest: usize, root: PageRef) {
 /// One block too many is refused with 2; a part block more is not.
 fn too_many_blocks(judge: &mut Judge) -> io::Result<()> {
     let image = Mapped::new((MOST_BLOCKS + 1) * BLOCK)?;
-    judge.image("too many blocks", &image);
+    judge.image("too many blocks", &image, View::FIRST);
     for (length, number) in [(image.len(), 2), (image.len() - 1, 3)] {
         for question in every_call().into_iter().chain([open()]) {
             let reply = judge.ask(&image[..length], &question);
@@ -130,11 +136,11 @@ fn long_chunk_case(
         plan.chunks[0].pages.remove(0);
     }
     let image = mapped(&plan)?;
-    judge.image(what, &image);
+    judge.image(what, &image, View::FIRST);
     for question in [count(), lookup(4), index(1), walk(&[]), copy(3, 30)] {
         judge.ask(&image, &question);
     }
-    let examined = judge.ask(&image, &Question::Examine { map: FORCES }).to_string();
+    let examined = judge.ask(&image, &examine()).to_string();
     judge.claim(examined == due, || format!("{what}: {examined}, due {due}"));
     Ok(())
 }

@@ -1,29 +1,40 @@
-//! Questions that need not make sense of an image: any key, any index, any area, any state.
+//! Questions that need not make sense of an image: any key, any index, any area, any state, any
+//! edition.
 
 use crate::build::tree::Entries;
+use crate::model::ask::View;
 use crate::model::walk::{State, DONE, FRESH, PLACES};
 use crate::random::{entries, Random};
-use crate::subject::{MapArgs, Question};
+use crate::subject::{Asks, MapArgs};
 
 /// A dozen questions about a map that was built with these entries.
-pub fn questions(random: &mut Random, map: MapArgs, built: &Entries) -> Vec<Question> {
-    let mut all = vec![Question::Count { map }];
+pub fn questions(random: &mut Random, map: MapArgs, built: &Entries) -> Vec<Asks> {
+    let mut all = vec![Asks::Count { map }];
     for _ in 0..3 {
         let key = some_key(random, map.kind, built);
-        all.push(Question::Lookup { map, key: key.clone() });
-        all.push(Question::Copy { map, key, area: random.below(40) as usize });
-        all.push(Question::Index { map, at: some_index(random, built) });
-        all.push(Question::Walk { map, state: some_state(random) });
+        all.push(Asks::Lookup { map, key: key.clone() });
+        all.push(Asks::Copy { map, key, area: random.below(40) as usize });
+        all.push(Asks::Index { map, at: some_index(random, built) });
+        all.push(Asks::Walk { map, state: some_state(random) });
     }
     if random.once_in(4) {
         let map = strange_map(random, map);
-        all.push(Question::Count { map });
-        all.push(Question::Examine { map });
-        all.push(Question::Index { map, at: 0 });
-        all.push(Question::Walk { map, state: FRESH });
-        all.push(Question::Find { name: some_name(random) });
+        all.push(Asks::Count { map });
+        all.push(Asks::Examine { map });
+        all.push(Asks::Index { map, at: 0 });
+        all.push(Asks::Walk { map, state: FRESH });
+        all.push(Asks::Find { name: some_name(random) });
     }
     all
+}
+
+/// The view of an image, the other edition's, or one that is none.
+pub fn view(random: &mut Random, due: View) -> View {
+    match random.below(16) {
+        0 => View { edition: *random.pick(&[0, 1, 2, 3, 1 << 32 | 1, 1 << 32 | 2, u64::MAX]) },
+        1 => View { edition: random.draw() >> random.below(64) },
+        _ => due,
+    }
 }
 
 fn some_key(random: &mut Random, kind: u64, built: &Entries) -> Vec<u8> {

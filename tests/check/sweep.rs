@@ -1,13 +1,15 @@
 //! Demand 3 on a sound map whose entries are known: every key looked up and copied, absent keys
 //! too, every index and one past, the count, the examination, and the walk to Done.
 
+use crate::model::ask::View;
 use crate::model::image::Span;
 use crate::model::index::{Entry, GivenKey};
 use crate::model::walk::FRESH;
-use crate::subject::{Answer, Judge, MapArgs, Question, AREA_FILL};
+use crate::subject::{Answer, Asks, Judge, MapArgs, Question, Reply, AREA_FILL};
 
-/// A map and its entries in key order, keys as a caller gives them.
+/// A map under a view, and its entries in key order, keys as a caller gives them.
 pub struct Expected<'a> {
+    pub view: View,
     pub map: MapArgs,
     pub entries: &'a [(Vec<u8>, Vec<u8>)],
 }
@@ -35,27 +37,27 @@ pub fn sweep(judge: &mut Judge, image: &[u8], expected: &Expected, what: &str) {
 impl Sweep<'_> {
     fn totals(&mut self) {
         let (map, n) = (self.expected.map, self.expected.entries.len() as u64);
-        let count = self.judge.ask(self.image, &Question::Count { map });
+        let count = self.ask(&self.question(Asks::Count { map }));
         self.claim(count.answer == Answer::Count(n), || format!("count: {count}"));
-        let report = self.judge.ask(self.image, &Question::Examine { map });
+        let report = self.ask(&self.question(Asks::Examine { map }));
         let passes = matches!(&report.answer, Answer::Report(r) if r.entries == n);
         self.claim(passes, || format!("examine: {report}"));
         for at in [n, n + 1, u64::MAX] {
-            let past = self.judge.ask(self.image, &Question::Index { map, at });
+            let past = self.ask(&self.question(Asks::Index { map, at }));
             self.claim(past.refusal() == Some(15), || format!("index {at}: {past}"));
         }
     }
 
     fn index(&mut self, i: usize, key: &[u8], value: &[u8]) {
-        let question = Question::Index { map: self.expected.map, at: i as u64 };
-        let reply = self.judge.ask(self.image, &question);
+        let question = self.question(Asks::Index { map: self.expected.map, at: i as u64 });
+        let reply = self.ask(&question);
         let good = matches!(reply.answer, Answer::Entry(e) if self.is_entry(&e, key, value));
         self.claim(good, || format!("{question}: {reply}"));
     }
 
     fn lookup(&mut self, key: &[u8], value: &[u8]) {
-        let question = Question::Lookup { map: self.expected.map, key: key.to_vec() };
-        let reply = self.judge.ask(self.image, &question);
+        let question = self.question(Asks::Lookup { map: self.expected.map, key: key.to_vec() });
+        let reply = self.ask(&question);
         let good = matches!(reply.answer, Answer::Value(v) if self.bytes(v) == value);
         self.claim(good, || format!("{question}: {reply}"));
     }
@@ -63,14 +65,14 @@ impl Sweep<'_> {
     /// Into an area one byte longer than the value, and into one byte less where there is one.
     fn copy(&mut self, key: &[u8], value: &[u8]) {
         let (map, key) = (self.expected.map, key.to_vec());
-        let longer = Question::Copy { map, key: key.clone(), area: value.len() + 1 };
-        let reply = self.judge.ask(self.image, &longer);
+        let longer = self.question(Asks::Copy { map, key: key.clone(), area: value.len() + 1 });
+        let reply = self.ask(&longer);
         let whole = [value, &[AREA_FILL]].concat();
         let good = matches!(reply.answer, Answer::Value(_)) && reply.area == Some(whole);
         self.claim(good, || format!("{longer}: {reply}"));
         if let Some(area) = value.len().checked_sub(1) {
-            let shorter = Question::Copy { map, key, area };
-            let reply = self.judge.ask(self.image, &shorter);
+            let shorter = self.question(Asks::Copy { map, key, area });
+            let reply = self.ask(&shorter);
             let kept = reply.area == Some(vec![AREA_FILL; area]);
             self.claim(reply.refusal() == Some(16) && kept, || format!("{shorter}: {reply}"));
         }
@@ -83,8 +85,8 @@ impl Sweep<'_> {
         let extremes = beside(self.expected.map, &[0; 8]);
         let absent: Vec<_> = keys.chain(extremes).filter(|key| !known(key)).collect();
         for key in absent {
-            let question = Question::Lookup { map: self.expected.map, key };
-            let reply = self.judge.ask(self.image, &question);
+            let question = self.question(Asks::Lookup { map: self.expected.map, key });
+            let reply = self.ask(&question);
             self.claim(reply.answer == Answer::Absent, || format!("{question}: {reply}"));
         }
     }
@@ -94,16 +96,24 @@ impl Sweep<'_> {
         let map = self.expected.map;
         let mut state = FRESH;
         for (key, value) in self.expected.entries {
-            let reply = self.judge.ask(self.image, &Question::Walk { map, state });
+            let reply = self.ask(&self.question(Asks::Walk { map, state }));
             let good = matches!(reply.answer, Answer::Entry(e) if self.is_entry(&e, key, value));
             self.claim(good, || format!("walk from {state:?}: {reply}"));
             state = reply.state.unwrap_or(state);
         }
         for _ in 0..2 {
-            let reply = self.judge.ask(self.image, &Question::Walk { map, state });
+            let reply = self.ask(&self.question(Asks::Walk { map, state }));
             self.claim(reply.answer == Answer::Done, || format!("walk's end: {reply}"));
             state = reply.state.unwrap_or(state);
         }
+    }
+
+    fn question(&self, asks: Asks) -> Question {
+        asks.under(self.expected.view)
+    }
+
+    fn ask(&mut self, question: &Question) -> Reply {
+        self.judge.ask(self.image, question)
     }
 
     fn is_entry(&self, entry: &Entry, key: &[u8], value: &[u8]) -> bool {

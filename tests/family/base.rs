@@ -11,7 +11,7 @@ use crate::subject::Question;
 
 /// The questions that the standard store and its cases are asked.
 fn questions() -> Vec<Question> {
-    let mut all = vec![open(), Question::List, find("forces"), find("notes"), find("nothing")];
+    let mut all = vec![open(), list(), find("forces"), find("notes"), find("nothing")];
     all.extend([count(), examine(), copy(9, 26), copy(7, 0), copy(8, 0)]);
     all.extend([-5, -1, 0, 7, 8, 9, 100].map(lookup));
     all.extend((0..7).map(index));
@@ -31,7 +31,7 @@ fn questions() -> Vec<Question> {
 
 /// For bases whose cases are about opening.
 fn opening_questions() -> Vec<Question> {
-    vec![open(), Question::List, find("forces"), lookup(7), lookup(100)]
+    vec![open(), list(), find("forces"), lookup(7), lookup(100)]
 }
 
 pub fn standard_base() -> Base {

@@ -1,8 +1,9 @@
-//! Questions by short names. Those without a map ask about `forces`: map 1, kind 0.
+//! Questions by short names, under edition 1. Those without a map ask about `forces`: map 1, kind 0.
 
 use crate::build::tree::number_key;
+use crate::model::ask::View;
 use crate::model::walk::{State, FRESH, PLACES};
-use crate::subject::{MapArgs, Question};
+use crate::subject::{Asks, MapArgs, Question};
 
 pub const FORCES: MapArgs = MapArgs { id: 1, kind: 0 };
 pub const NOTES: MapArgs = MapArgs { id: 2, kind: 1 };
@@ -16,12 +17,20 @@ pub const BARE: MapArgs = MapArgs { id: 5, kind: 0 };
 pub const BEAMS: MapArgs = MapArgs { id: 6, kind: 0 };
 pub const METADATA: MapArgs = MapArgs { id: 0, kind: 1 };
 
+fn first(asks: Asks) -> Question {
+    asks.under(View::FIRST)
+}
+
 pub fn open() -> Question {
-    Question::Open
+    first(Asks::Open)
+}
+
+pub fn list() -> Question {
+    first(Asks::List)
 }
 
 pub fn find(name: &str) -> Question {
-    Question::Find { name: name.as_bytes().to_vec() }
+    first(Asks::Find { name: name.as_bytes().to_vec() })
 }
 
 pub fn lookup(key: i64) -> Question {
@@ -29,11 +38,15 @@ pub fn lookup(key: i64) -> Question {
 }
 
 pub fn lookup_in(map: MapArgs, key: i64) -> Question {
-    Question::Lookup { map, key: number_key(key) }
+    lookup_bytes(map, &number_key(key))
 }
 
 pub fn lookup_text(map: MapArgs, key: &str) -> Question {
-    Question::Lookup { map, key: key.as_bytes().to_vec() }
+    lookup_bytes(map, key.as_bytes())
+}
+
+pub fn lookup_bytes(map: MapArgs, key: &[u8]) -> Question {
+    first(Asks::Lookup { map, key: key.to_vec() })
 }
 
 pub fn index(at: u64) -> Question {
@@ -41,7 +54,7 @@ pub fn index(at: u64) -> Question {
 }
 
 pub fn index_in(map: MapArgs, at: u64) -> Question {
-    Question::Index { map, at }
+    first(Asks::Index { map, at })
 }
 
 pub fn count() -> Question {
@@ -49,11 +62,15 @@ pub fn count() -> Question {
 }
 
 pub fn count_of(map: MapArgs) -> Question {
-    Question::Count { map }
+    first(Asks::Count { map })
 }
 
 pub fn copy(key: i64, area: usize) -> Question {
-    Question::Copy { map: FORCES, key: number_key(key), area }
+    copy_bytes(FORCES, &number_key(key), area)
+}
+
+pub fn copy_bytes(map: MapArgs, key: &[u8], area: usize) -> Question {
+    first(Asks::Copy { map, key: key.to_vec(), area })
 }
 
 pub fn walk(places: &[u64]) -> Question {
@@ -62,7 +79,11 @@ pub fn walk(places: &[u64]) -> Question {
 
 /// A step from the state with these places and their depth; no places is the fresh state.
 pub fn walk_in(map: MapArgs, places: &[u64]) -> Question {
-    Question::Walk { map, state: state(places) }
+    walk_from(map, state(places))
+}
+
+pub fn walk_from(map: MapArgs, state: State) -> Question {
+    first(Asks::Walk { map, state })
 }
 
 pub fn state(places: &[u64]) -> State {
@@ -76,7 +97,12 @@ pub fn examine() -> Question {
 }
 
 pub fn examine_of(map: MapArgs) -> Question {
-    Question::Examine { map }
+    first(Asks::Examine { map })
+}
+
+/// Questions under an edition.
+pub fn under(edition: u64, questions: Vec<Question>) -> Vec<Question> {
+    questions.into_iter().map(|question| question.under(View { edition })).collect()
 }
 
 /// The seven calls that read the metadata, each once, about `forces`: what a fault in it meets.

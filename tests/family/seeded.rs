@@ -2,6 +2,7 @@
 
 use super::base::standard_base;
 use super::case::Case;
+use crate::model::fletcher::Edition;
 use crate::random::{raw, Random};
 use crate::subject::Reply;
 
@@ -19,7 +20,7 @@ pub fn cases() -> Vec<Case> {
     let mut random = Random::new(SEED);
     for number in 1.. {
         let mut image = base.image.clone();
-        raw::damage(&mut random, &mut image);
+        raw::damage(&mut random, Edition::First, &mut image);
         let given = replies(&image);
         if !known.contains(&given) {
             known.push(given);

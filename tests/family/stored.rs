@@ -14,7 +14,8 @@
 use std::fmt::Write;
 
 use crate::build::plan::write;
-use crate::subject::{Judge, MapArgs, Question, Reply};
+use crate::model::ask::View;
+use crate::subject::{Asks, Judge, MapArgs, Question, Reply};
 use crate::vectors::{bytes_word, word_bytes};
 
 use super::{Base, Case};
@@ -150,19 +151,23 @@ impl Stored {
         Some(())
     }
 
-    /// The maps that are examined among its questions.
-    pub fn examined(&self) -> Vec<MapArgs> {
-        let questions = self.asked.iter().filter_map(|(question, _)| Question::parse(question));
-        let map = |question| match question {
-            Question::Examine { map } => Some(map),
+    /// Its questions.
+    pub fn questions(&self) -> impl Iterator<Item = Question> + '_ {
+        self.asked.iter().filter_map(|(question, _)| Question::parse(question))
+    }
+
+    /// The maps that are examined among its questions, each with its view.
+    pub fn examined(&self) -> Vec<(View, MapArgs)> {
+        let map = |question: Question| match question.asks {
+            Asks::Examine { map } => Some((question.view, map)),
             _ => None,
         };
-        questions.filter_map(map).collect()
+        self.questions().filter_map(map).collect()
     }
 
     /// Asks all its questions and holds the replies against the stored ones.
     pub fn check(&self, judge: &mut Judge) {
-        judge.image(&self.name, &self.image);
+        judge.image(&self.name, &self.image, View::FIRST);
         for (question, expected) in &self.asked {
             let Some(parsed) = Question::parse(question) else {
                 judge.claim(false, || format!("{}: no question: {question}", self.name));

@@ -7,6 +7,7 @@ answers answers_to(lent image, const question *q)
     const asked_map m = {q->map, q->kind};
     const mvstore_walk fresh = {0};
     answers a;
+    ask_in(q->edition);
     a.newest = ask_newest(image);
     a.id = ask_map(image, q->name, q->name_len);
     a.value = ask_lookup(image, m, q->key, q->key_len);
@@ -43,6 +44,16 @@ int steps_same(const mvstore_step *a, const mvstore_step *b)
            && a->len == b->len && memcmp(&a->walk, &b->walk, sizeof a->walk) == 0;
 }
 
+static int ids_same(const mvstore_id *a, const mvstore_id *b)
+{
+    return a->refusal == b->refusal && a->id == b->id;
+}
+
+static int counts_same(const mvstore_count_of *a, const mvstore_count_of *b)
+{
+    return a->refusal == b->refusal && a->count == b->count;
+}
+
 static int reports_same(const mvstore_report *a, const mvstore_report *b)
 {
     return a->refusal == b->refusal && a->depth == b->depth && a->entries == b->entries
@@ -51,10 +62,24 @@ static int reports_same(const mvstore_report *a, const mvstore_report *b)
 
 int answers_same(const answers *a, const answers *b)
 {
-    return chunks_same(&a->newest, &b->newest) && a->id.refusal == b->id.refusal
-           && a->id.id == b->id.id
+    return chunks_same(&a->newest, &b->newest) && ids_same(&a->id, &b->id)
            && values_same(&a->value, &b->value) && values_same(&a->copied, &b->copied)
-           && entries_same(&a->entry, &b->entry) && a->count.refusal == b->count.refusal
-           && a->count.count == b->count.count && steps_same(&a->fresh, &b->fresh)
-           && steps_same(&a->step, &b->step) && reports_same(&a->report, &b->report);
+           && entries_same(&a->entry, &b->entry) && counts_same(&a->count, &b->count)
+           && steps_same(&a->fresh, &b->fresh) && steps_same(&a->step, &b->step)
+           && reports_same(&a->report, &b->report);
+}
+
+static int lost(uint32_t a, uint32_t b)
+{
+    return a == MVSTORE_NOT_LOCATED || b == MVSTORE_NOT_LOCATED;
+}
+
+#define AGREE(kind, member) \
+    (kind##_same(&a->member, &b->member) || lost(a->member.refusal, b->member.refusal))
+
+int answers_agree(const answers *a, const answers *b)
+{
+    return chunks_same(&a->newest, &b->newest) && AGREE(ids, id) && AGREE(values, value)
+           && AGREE(values, copied) && AGREE(entries, entry) && AGREE(counts, count)
+           && AGREE(steps, fresh) && AGREE(steps, step) && AGREE(reports, report);
 }

@@ -15,10 +15,14 @@ typedef struct answers {
     mvstore_report report;
 } answers;
 
-/* Each by its function of ask.h, which claims what holds of the answer by itself. */
+/* Each by its function of ask.h, which claims what holds of the answer by itself; what is asked
+ * after it is asked in the question's edition too. */
 answers answers_to(lent image, const question *q);
 
 int answers_same(const answers *a, const answers *b);
+
+/* Each is the same, or one of the two could not locate a chunk. */
+int answers_agree(const answers *a, const answers *b);
 
 int steps_same(const mvstore_step *a, const mvstore_step *b);
 

@@ -53,9 +53,10 @@ static void claim_name(lent image, const question *q, mvstore_id id)
         CHECK(id.refusal == MVSTORE_NOT_A_NUMBER);
 }
 
-static int bad_map(const question *q)
+static int bad_arguments(const question *q)
 {
-    return q->kind > 1 || q->map > 0x7fffffff || (q->map == 0 && q->kind == 0);
+    return !question_edition_good(q) || q->kind > 1 || q->map > 0x7fffffff
+           || (q->map == 0 && q->kind == 0);
 }
 
 /* The map's root, and what is refused before it is read. */
@@ -63,9 +64,9 @@ static void claim_root(lent image, const question *q, mvstore_count_of c)
 {
     char key[32];
     uint64_t root;
-    CHECK(!bad_map(q) || c.refusal == MVSTORE_BAD_ARGUMENT);
-    CHECK(bad_map(q) || c.refusal != MVSTORE_BAD_ARGUMENT);
-    if (bad_map(q) || q->map == 0)
+    CHECK(!bad_arguments(q) || c.refusal == MVSTORE_BAD_ARGUMENT);
+    CHECK(bad_arguments(q) || c.refusal != MVSTORE_BAD_ARGUMENT);
+    if (bad_arguments(q) || q->map == 0)
         return;
     int len = snprintf(key, sizeof key, "root.%" PRIx64, q->map);
     mvstore_value v = ask_lookup(image, metadata, key, (size_t)len);
@@ -126,10 +127,28 @@ static int goes_on(lent image, asked_map m, mvstore_step *s)
 static void claim_opening(const question *q, const answers *a)
 {
     uint32_t refusal = a->newest.refusal;
-    if (bad_map(q))
+    if (bad_arguments(q))
         return;
     CHECK(refusal == 0 || (a->count.refusal == refusal && a->report.refusal == refusal));
     CHECK(refusal != 0 || a->count.refusal == 0 || a->count.refusal > MVSTORE_NO_START);
+}
+
+/* A text of even length has the same sum in both. So both may open the image at one chunk; another
+ * may stand in one of them only, and where it stands it says the same. */
+void claims_other_edition(lent image, const question *q, const answers *a)
+{
+    static question other;
+    if (!question_edition_good(q) || a->newest.refusal != 0)
+        return;
+    other = *q;
+    other.edition = MVSTORE_EDITION_1 + MVSTORE_EDITION_2 - q->edition;
+    ask_in(other.edition);
+    mvstore_chunk newest = ask_newest(image);
+    if (newest.refusal == 0 && newest.block == a->newest.block) {
+        answers b = answers_to(image, &other);
+        CHECK(answers_agree(a, &b));
+    }
+    ask_in(q->edition);
 }
 
 void claims_any(lent image, const question *q, const answers *a)

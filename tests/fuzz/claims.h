@@ -6,6 +6,9 @@
 
 #define STEPS 24 /* of a walk: in a damaged image it may go on for very long */
 
+/* Where the other edition opens the image at the same chunk: it is asked too, and agrees. */
+void claims_other_edition(lent image, const question *q, const answers *a);
+
 /* On any image: arguments, then opening, then the map; copy beside lookup; a
  * name and a root as the metadata's lookup gives them; a walk to its end. */
 void claims_any(lent image, const question *q, const answers *a);

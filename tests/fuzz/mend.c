@@ -28,26 +28,26 @@ static uint8_t *sum_of(uint8_t *line, size_t len)
 }
 
 /* The sum may take more digits than it took: then the newline moves. */
-static void mend_line(uint8_t *area, size_t room)
+static void mend_line(uint8_t *area, size_t room, uint64_t edition)
 {
     char digits[16];
     uint8_t *newline = memchr(area, '\n', room);
     uint8_t *comma = newline == NULL ? NULL : sum_of(area, (size_t)(newline - area));
     if (comma == NULL)
         return;
-    uint32_t sum = fletcher(area, (size_t)(comma - area));
+    uint32_t sum = fletcher(area, (size_t)(comma - area), edition);
     size_t len = (size_t)snprintf(digits, sizeof digits, "%" PRIx32 "\n", sum);
     if (len <= room - (size_t)(comma - area) - sum_name_len)
         memcpy(comma + sum_name_len, digits, len);
 }
 
-void mend_sums(uint8_t *image, size_t len)
+void mend_sums(uint8_t *image, size_t len, uint64_t edition)
 {
     for (size_t block = 0; block < len / BLOCK; block++) {
         if (block < 2)
-            mend_line(image + block * BLOCK, BLOCK);
+            mend_line(image + block * BLOCK, BLOCK, edition);
         else
-            mend_line(image + (block + 1) * BLOCK - FOOTER, FOOTER);
+            mend_line(image + (block + 1) * BLOCK - FOOTER, FOOTER, edition);
     }
 }
 
@@ -93,16 +93,16 @@ static void know_chunks(mending *m, uint8_t *image, size_t len)
 }
 
 /* With its sum and a newline. */
-static void put_line(uint8_t *area, const char *text)
+static void put_line(uint8_t *area, const char *text, uint64_t edition)
 {
     char line[FOOTER + 1];
-    uint32_t sum = fletcher((const uint8_t *)text, strlen(text));
+    uint32_t sum = fletcher((const uint8_t *)text, strlen(text), edition);
     int len = snprintf(line, sizeof line, "%s%s%" PRIx32 "\n", text, sum_name, sum);
     if (len > 0 && (size_t)len < sizeof line)
         memcpy(area, line, (size_t)len);
 }
 
-static void put_footer(const mending *m, const chunk *c)
+static void put_footer(const mending *m, const chunk *c, uint64_t edition)
 {
     char text[FOOTER];
     size_t blocks = (m->len - c->at) / BLOCK;
@@ -110,17 +110,17 @@ static void put_footer(const mending *m, const chunk *c)
         return;
     snprintf(text, sizeof text, "chunk:%" PRIx64 ",block:%" PRIx64 ",version:%" PRIx64, c->id,
              c->block, c->version);
-    put_line(m->image + c->at + (size_t)c->len * BLOCK - FOOTER, text);
+    put_line(m->image + c->at + (size_t)c->len * BLOCK - FOOTER, text, edition);
 }
 
-void mend_lines(uint8_t *image, size_t len)
+void mend_lines(uint8_t *image, size_t len, uint64_t edition)
 {
     mending m;
     char text[FOOTER];
     chunk newest = {0};
     know_chunks(&m, image, len);
     for (size_t i = 0; i < m.chunk_count; i++) {
-        put_footer(&m, &m.chunks[i]);
+        put_footer(&m, &m.chunks[i], edition);
         if (m.chunks[i].version >= newest.version)
             newest = m.chunks[i];
     }
@@ -128,8 +128,8 @@ void mend_lines(uint8_t *image, size_t len)
         return;
     snprintf(text, sizeof text, "H:2,block:%" PRIx64 ",blockSize:1000,chunk:%" PRIx64
              ",format:1,version:%" PRIx64, newest.block, newest.id, newest.version);
-    put_line(image, text);
-    put_line(image + BLOCK, text);
+    put_line(image, text, edition);
+    put_line(image + BLOCK, text, edition);
 }
 
 /* What is left of a page, or of the image. */

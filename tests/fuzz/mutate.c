@@ -100,6 +100,8 @@ size_t LLVMFuzzerCustomMutator(uint8_t *data, size_t size, size_t max, unsigned 
         data[at_mend] |= MEND_SUMS | MEND_PAGES;
     if (below(&random, 2) != 0)
         data[at_mend] |= MEND_LINES;
+    if (below(&random, 8) == 0)
+        data[at_edition] ^= 3; /* from 1 to 2, and back */
     if (way == 5)
         return copy_block(data, size, max, &random);
     if (way <= 8)

@@ -33,6 +33,7 @@ void question_read(const uint8_t *data, size_t size, question *q)
     if (size != 0)
         memcpy(head, data, size < QUESTION ? size : QUESTION);
     q->mend = head[at_mend];
+    q->edition = shifted(head + at_edition);
     q->kind = shifted(head + at_kind);
     q->map = shifted(head + at_map);
     q->index = shifted(head + at_index);
@@ -42,6 +43,11 @@ void question_read(const uint8_t *data, size_t size, question *q)
     repeat(q->key, q->key_len, head + at_key);
     repeat(q->name, q->name_len, head + at_name);
     q->walk = walk_of(head);
+}
+
+int question_edition_good(const question *q)
+{
+    return q->edition == MVSTORE_EDITION_1 || q->edition == MVSTORE_EDITION_2;
 }
 
 int question_key_good(const question *q)

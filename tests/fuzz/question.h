@@ -14,8 +14,9 @@
  *   13  1      the walk's depth
  *   14  1      the walk's last answer
  *   15  5      the walk's places 0 to 3, and 15
- *   20  22     the key's bytes, again and again
- *   42  22     the name's bytes, likewise
+ *   20  21     the key's bytes, again and again
+ *   41  21     the name's bytes, likewise
+ *   62  2      edition, as a byte and how far it is shifted to the left
  */
 #ifndef QUESTION_H
 #define QUESTION_H
@@ -24,7 +25,7 @@
 
 #define QUESTION ((size_t)64)
 #define KEYS 1100 /* above 1,024, the longest key */
-#define WORD 22   /* bytes of a key or a name */
+#define WORD 21   /* bytes of a key or a name */
 
 #define MEND_SUMS 1
 #define MEND_PAGES 2
@@ -43,12 +44,13 @@ enum {
     at_last = 14,
     at_places = 15,
     at_key = 20,
-    at_name = 42
+    at_name = 41,
+    at_edition = 62
 };
 
 typedef struct question {
     unsigned mend;
-    uint64_t kind, map, index;
+    uint64_t edition, kind, map, index;
     size_t key_len, name_len, room;
     uint8_t key[KEYS], name[KEYS];
     mvstore_walk walk;
@@ -56,6 +58,9 @@ typedef struct question {
 
 /* The question of an input. */
 void question_read(const uint8_t *data, size_t size, question *q);
+
+/* Whether the edition is one. */
+int question_edition_good(const question *q);
 
 /* Whether the key is well formed for the kind that is asked. */
 int question_key_good(const question *q);

@@ -1,8 +1,9 @@
 /* seeds.c - the fuzz target's seeds, without a fuzzer.
  *
- *   seeds IMAGE..            asks every image all the questions below
+ *   seeds IMAGE..            asks every image all the questions below, in every edition
  *   seeds --input FILE..     gives the target these inputs, as a fuzzer left them
- *   seeds --write DIR IMAGE..  writes an input for each image, the questions in turn
+ *   seeds --write DIR IMAGE..  writes two inputs for each image, one in each edition that is good,
+ *                            the questions in turn
  *
  * It aborts where a claim is false; the last file that stderr names is the one.
  */
@@ -36,6 +37,9 @@ static const seed seeds[] = {
 };
 enum { seed_count = sizeof seeds / sizeof *seeds };
 
+/* Both editions, and a number on either side of them. */
+enum { first_edition = 0, last_edition = 3, edition_count = last_edition - first_edition + 1 };
+
 static void put_word(uint8_t *head, size_t len_at, size_t at, const char *word)
 {
     size_t len = strlen(word);
@@ -49,9 +53,10 @@ static void put_number_key(uint8_t *head, const char *last)
     head[at_key + 7] = (uint8_t)*last;
 }
 
-static void put_question(uint8_t *head, const seed *s)
+static void put_question(uint8_t *head, const seed *s, int edition)
 {
     memset(head, 0, QUESTION);
+    head[at_edition] = (uint8_t)edition;
     head[at_mend] = s->mend;
     head[at_kind] = s->kind;
     head[at_map] = s->map;
@@ -80,8 +85,8 @@ static lent input_of(const char *path)
 static void ask(const char *path)
 {
     lent input = input_of(path);
-    for (size_t i = 0; i < seed_count; i++) {
-        put_question(input.bytes, &seeds[i]);
+    for (int i = 0; i < seed_count * edition_count; i++) {
+        put_question(input.bytes, &seeds[i % seed_count], first_edition + i / seed_count);
         LLVMFuzzerTestOneInput(input.bytes, input.len);
     }
     lent_free(&input);
@@ -94,12 +99,12 @@ static void give(const char *path)
     lent_free(&input);
 }
 
-static void put_file(const char *dir, size_t number, const char *path)
+static void put_file(const char *dir, size_t number, const char *path, int edition)
 {
     char name[4096];
     lent input = input_of(path);
-    put_question(input.bytes, &seeds[number % seed_count]);
-    snprintf(name, sizeof name, "%s/%zu", dir, number);
+    put_question(input.bytes, &seeds[number % seed_count], edition);
+    snprintf(name, sizeof name, "%s/%zu.%d", dir, number, edition);
     FILE *file = fopen(name, "wb");
     if (file == NULL || fwrite(input.bytes, 1, input.len, file) != input.len || fclose(file) != 0) {
         perror(name);
@@ -125,10 +130,12 @@ int main(int argc, char **argv)
         else if (first == 2)
             give(told(argv[i]));
         else
-            put_file(argv[2], (size_t)(i - first), argv[i]);
+            for (int edition = MVSTORE_EDITION_1; edition <= MVSTORE_EDITION_2; edition++)
+                put_file(argv[2], (size_t)(i - first), argv[i], edition);
     }
     if (first >= argc)
         return fputs("usage: seeds [--input | --write DIR] FILE..\n", stderr), 2;
-    printf("%d files, %d questions\n", argc - first, (argc - first) * (first == 1 ? seed_count : 1));
+    int questions = first == 1 ? seed_count * edition_count : first == 2 ? 1 : 2;
+    printf("%d files, %d questions\n", argc - first, (argc - first) * questions);
     return 0;
 }

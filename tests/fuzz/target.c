@@ -55,15 +55,15 @@ static void show(const answers *a)
     ++*size_of(3, a->count.count);
 }
 
-static lent sealed(const uint8_t *bytes, size_t len, unsigned mend)
+static lent sealed(const uint8_t *bytes, size_t len, unsigned mend, uint64_t edition)
 {
     lent image = lent_copy(bytes, len);
     if ((mend & MEND_PAGES) != 0)
         mend_pages(image.bytes, image.len);
     if ((mend & MEND_LINES) != 0)
-        mend_lines(image.bytes, image.len);
+        mend_lines(image.bytes, image.len, edition);
     if ((mend & MEND_SUMS) != 0)
-        mend_sums(image.bytes, image.len);
+        mend_sums(image.bytes, image.len, edition);
     lent_seal(&image);
     return image;
 }
@@ -73,12 +73,13 @@ int LLVMFuzzerTestOneInput(const uint8_t *data, size_t size)
     static question q;
     question_read(data, size, &q);
     size_t head = size < QUESTION ? size : QUESTION;
-    lent image = sealed(data + head, size - head, q.mend);
+    lent image = sealed(data + head, size - head, q.mend, q.edition);
     answers a = answers_to(image, &q);
     /* A last part block is ignored; and the answers depend on no address. */
-    lent whole = sealed(image.bytes, image.len - image.len % BLOCK, 0);
+    lent whole = sealed(image.bytes, image.len - image.len % BLOCK, 0, q.edition);
     answers again = answers_to(whole, &q);
     CHECK(answers_same(&a, &again));
+    claims_other_edition(image, &q, &a);
     claims_any(image, &q, &a);
     if (a.report.refusal == 0)
         claims_passed(image, &q, &a);

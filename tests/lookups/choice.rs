@@ -3,7 +3,7 @@
 use std::collections::BTreeSet;
 
 use super::Question;
-use crate::model::ask;
+use crate::model::ask::{self, View};
 use crate::model::index::GivenKey;
 use crate::model::key::Kind;
 use crate::model::locate::{Store, QUESTIONS};
@@ -28,10 +28,10 @@ pub struct Names {
 
 impl Names {
     /// What a walk of the metadata meets before it ends or is refused.
-    pub fn of(image: &[u8]) -> Names {
+    pub fn of(image: &[u8], view: View) -> Names {
         let mut names = Names::default();
         let mut state = FRESH;
-        while let Ok(Step::Yield(entry)) = ask::walk(image, 0, 1, &mut state) {
+        while let Ok(Step::Yield(entry)) = ask::walk(image, view, 0, 1, &mut state) {
             if let GivenKey::Text(key) = entry.key {
                 let bytes = |at, length| &image[at as usize..(at + length) as usize];
                 let value = bytes(entry.value.at, entry.value.length);
@@ -64,10 +64,11 @@ fn hex(digits: &[u8]) -> Option<u64> {
     u64::from_str_radix(text, 16).ok().filter(|&number| number < UNKNOWN)
 }
 
-/// The questions for an image; where opening refuses, whether it does so to another call too.
-pub fn questions(image: &[u8], names: &Names) -> Vec<Question> {
+/// The questions for an image under a view; where opening refuses, whether it does so to another call
+/// too.
+pub fn questions(image: &[u8], view: View, names: &Names) -> Vec<Question> {
     let mut all = vec![Question::Open, Question::Map { name: b"nothing".to_vec() }];
-    let Ok(store) = Store::open(image) else {
+    let Ok(store) = view.judge().and_then(|edition| Store::open(image, edition)) else {
         return all;
     };
     all.extend(names.maps.iter().map(|name| Question::Map { name: name.clone() }));

@@ -1,17 +1,20 @@
 //! The images and their questions: the stored family, hostile stores, stores that H2 wrote, and
-//! sizes.
+//! sizes. Under edition 2 the images that are about editions, the bases resummed, and H2's stores as
+//! it wrote them.
 
+use std::collections::BTreeSet;
 use std::fmt::Write;
-use std::path::Path as File;
 use std::{fs, io};
 
 use super::choice::{questions, Names};
 use super::hostile::{hostile, Path};
 use super::sparse::sparse;
 use super::Question;
+use crate::build::resummed::resummed;
 use crate::check::stores;
 use crate::family::tiny::tiny_with;
 use crate::family::{self, Base, Case};
+use crate::model::ask::View;
 use crate::model::image::BLOCK;
 use crate::vectors::bytes_word;
 
@@ -22,12 +25,16 @@ const BRIDGED: usize = 8;
 /// The most bytes that are put by one line.
 const LONGEST_PUT: usize = 4096;
 
-/// An image by the lines that make it, and its questions with the model's answers.
+/// An image by the lines that make it, and its questions with the model's answers, each under its
+/// view.
 pub struct Asked {
     pub name: String,
     pub made: String,
-    pub asked: Vec<(Question, String)>,
+    pub asked: Vec<(View, Question, String)>,
 }
+
+/// Numbers that are no edition.
+const NONE: [u64; 3] = [0, 3, (1 << 32) + 1];
 
 /// The stores of H2 that take few bytes; the others are only opened.
 const SMALL: [&str; 2] = ["bridge", "mixed"];
@@ -43,94 +50,147 @@ pub fn images() -> io::Result<Vec<Asked>> {
 
 fn hostile_stores() -> Vec<Asked> {
     let of = |chunks| {
-        let store = |name, path| whole(&format!("{name}-{chunks}"), &hostile(chunks, path));
+        let store =
+            |name, path| whole(&format!("{name}-{chunks}"), &hostile(chunks, path), View::FIRST);
         [store("level", Path::Level), store("rising", Path::Rising)]
     };
     [7, 8, 9].into_iter().flat_map(of).collect()
 }
 
-/// The stores that H2 wrote.
+/// The stores that H2 wrote, each with the sums of edition 1, and then as it is.
 fn real() -> io::Result<Vec<Asked>> {
-    let folder = File::new(env!("CARGO_MANIFEST_DIR")).join("stores");
-    let read = |name: &str| fs::read(folder.join(format!("{name}.base.mv")));
     let of = |name: &&str| {
         let asked = if SMALL.contains(name) { whole } else { opened };
-        Ok(asked(&format!("h2-{name}"), &read(name)?))
+        let (base, own) = (fs::read(stores::base(name))?, fs::read(stores::own(name))?);
+        let mut first = asked(&format!("h2-{name}"), &base, View::FIRST);
+        first.made += KEEP;
+        let mut second = asked(&format!("h2-{name}-own"), &own, View::SECOND);
+        let kept: fn(&[u8]) -> Vec<u8> = if SMALL.contains(name) { <[u8]>::to_vec } else { sparse };
+        second.made = like(&second.name, &kept(&base), &kept(&own));
+        second.ask(&own, View::FIRST, Question::Open);
+        Ok([first, second])
     };
-    stores::NAMES.iter().map(of).collect()
+    let pairs: io::Result<Vec<[Asked; 2]>> = stores::NAMES.iter().map(of).collect();
+    Ok(pairs?.into_iter().flatten().collect())
 }
 
 /// One chunk that fills the image after the file headers, where it has room for one.
 fn sized(blocks: u64) -> Asked {
     let mut image = tiny_with(159, blocks.max(3) - 2).image();
     image.truncate((blocks * BLOCK) as usize);
-    opened(&format!("size-{blocks}"), &image)
+    opened(&format!("size-{blocks}"), &image, View::FIRST)
 }
 
 fn fits(image: &[u8]) -> bool {
     image.len() as u64 <= MOST_BLOCKS * BLOCK
 }
 
-/// A base and its cases.
+/// A base and its cases, and the base resummed.
 fn of_base(base: &Base, cases: &[Case]) -> Vec<Asked> {
     if !fits(&base.image) {
         return Vec::new();
     }
-    let names = Names::of(&base.image);
+    let names = Names::of(&base.image, View::FIRST);
     let cases = cases.iter().filter(|case| fits(&case.image));
-    let mut all = vec![whole(base.name, &base.image)];
-    all[0].made += "keep\n";
+    let mut all = vec![whole(base.name, &base.image, View::FIRST)];
+    all[0].made += KEEP;
     all.extend(cases.map(|case| of_case(base, &names, case)));
+    all.push(of_resummed(base));
     all
 }
 
+/// The base with its sums in the other edition.
+fn of_resummed(base: &Base) -> Asked {
+    let name = format!("{}-resummed", base.name);
+    let image = resummed(&base.image);
+    let made = like(&name, &base.image, &image);
+    let mut asked = Asked::new(&name, made, &image, View::SECOND, &Names::of(&image, View::SECOND));
+    for edition in [1].into_iter().chain(NONE) {
+        asked.ask(&image, View { edition }, Question::Open);
+    }
+    asked
+}
+
 /// An image from zeros.
-fn whole(name: &str, image: &[u8]) -> Asked {
-    Asked::new(name, from_zeros(name, image), image, &Names::of(image))
+fn whole(name: &str, image: &[u8], view: View) -> Asked {
+    Asked::new(name, from_zeros(name, image), image, view, &Names::of(image, view))
 }
 
 /// An image that is only opened, without what opening can't look at; it opens as the whole one does.
-fn opened(name: &str, image: &[u8]) -> Asked {
+fn opened(name: &str, image: &[u8], view: View) -> Asked {
     assert!(fits(image), "too large: {name}");
     let cut_down = sparse(image);
-    let answer = Question::Open.answer(image);
-    assert_eq!(Question::Open.answer(&cut_down), answer, "{name} opens differently when cut down");
-    let made = from_zeros(name, &cut_down);
-    Asked { name: name.to_string(), made, asked: vec![(Question::Open, answer)] }
+    let mut asked =
+        Asked { name: name.to_string(), made: from_zeros(name, &cut_down), asked: vec![] };
+    asked.ask(&cut_down, view, Question::Open);
+    let answer = Question::Open.answer(image, view);
+    assert_eq!(asked.asked[0].2, answer, "{name} opens differently when cut down");
+    asked
 }
 
-/// A case, asked also for what its base names.
+/// A case, asked also for what its base names; under another edition where it claims something of it.
 fn of_case(base: &Base, names: &Names, case: &Case) -> Asked {
-    let names = Names::of(&case.image).join(names.clone());
+    let names = Names::of(&case.image, View::FIRST).join(names.clone());
     let made = if case.image.len() == base.image.len() {
-        format!("like {}\n{}", case.name, puts(&base.image, &case.image))
+        like(&case.name, &base.image, &case.image)
     } else {
         from_zeros(&case.name, &case.image)
     };
-    Asked::new(&case.name, made, &case.image, &names)
+    let mut asked = Asked::new(&case.name, made, &case.image, View::FIRST, &names);
+    let views: BTreeSet<View> = case.claims.iter().map(|(question, _)| question.view).collect();
+    for view in views.into_iter().filter(|&view| view != View::FIRST) {
+        if view == View::SECOND {
+            asked.ask_all(&case.image, view, &names);
+        } else {
+            asked.ask(&case.image, view, Question::Open);
+        }
+    }
+    asked
 }
 
 impl Asked {
-    fn new(name: &str, made: String, image: &[u8], names: &Names) -> Asked {
-        let answered = |question: Question| {
-            let answer = question.answer(image);
-            (question, answer)
-        };
-        let asked = questions(image, names).into_iter().map(answered).collect();
-        Asked { name: name.to_string(), made, asked }
+    fn new(name: &str, made: String, image: &[u8], view: View, names: &Names) -> Asked {
+        let mut asked = Asked { name: name.to_string(), made, asked: Vec::new() };
+        asked.ask_all(image, view, names);
+        asked
+    }
+
+    fn ask_all(&mut self, image: &[u8], view: View, names: &Names) {
+        let all = questions(image, view, names);
+        all.into_iter().for_each(|question| self.ask(image, view, question));
+    }
+
+    fn ask(&mut self, image: &[u8], view: View, question: Question) {
+        let answer = question.answer(image, view);
+        self.asked.push((view, question, answer));
     }
 
     /// The lines that make the image and ask.
     pub fn question(&self) -> String {
-        let asked = self.asked.iter().map(|(question, _)| format!("{question}\n"));
-        self.made.clone() + &asked.collect::<String>()
+        let mut text = self.made.clone();
+        let mut view = View::FIRST;
+        for (under, question, _) in &self.asked {
+            if *under != view {
+                writeln!(text, "edition {}", under.edition).expect("a string takes every line");
+                view = *under;
+            }
+            writeln!(text, "{question}").expect("as above");
+        }
+        text
     }
 
     /// The image's name and the answers.
     pub fn answer(&self) -> String {
-        let answers = self.asked.iter().map(|(_, answer)| format!("{answer}\n"));
+        let answers = self.asked.iter().map(|(_, _, answer)| format!("{answer}\n"));
         format!("{}\n", self.name) + &answers.collect::<String>()
     }
+}
+
+/// The line after which an image is the base of the next ones.
+const KEEP: &str = "keep\n";
+
+fn like(name: &str, base: &[u8], image: &[u8]) -> String {
+    format!("like {name}\n{}", puts(base, image))
 }
 
 fn from_zeros(name: &str, image: &[u8]) -> String {

@@ -7,6 +7,7 @@
 //! like NAME               an image begins as a copy of the base
 //! put PLACE HEX           bytes placed in the image
 //! cut BYTES               so many bytes of it are the image
+//! edition N               the edition of the questions that follow; 1 where an image begins
 //! open                    what the image opens to: `chunk C block B version V`
 //! map HEX                 the id of the map with a name: `id N`
 //! root ID                 the root of a map: `root POSITION`

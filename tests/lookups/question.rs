@@ -2,7 +2,7 @@
 
 use std::fmt;
 
-use crate::model::ask;
+use crate::model::ask::{self, View};
 use crate::model::chunk::Chunk;
 use crate::model::key::Kind;
 use crate::model::locate::{Store, QUESTIONS};
@@ -22,35 +22,40 @@ pub enum Question {
 
 impl Question {
     /// The model's answer.
-    pub fn answer(&self, image: &[u8]) -> String {
-        self.outcome(image).unwrap_or_else(|refusal| format!("refused {}", refusal.0))
+    pub fn answer(&self, image: &[u8], view: View) -> String {
+        self.outcome(image, view).unwrap_or_else(|refusal| format!("refused {}", refusal.0))
     }
 
-    fn outcome(&self, image: &[u8]) -> Outcome<String> {
+    fn outcome(&self, image: &[u8], view: View) -> Outcome<String> {
         match self {
             Question::Open => {
-                let Chunk { id, block, version, .. } = ask::open(image)?;
+                let Chunk { id, block, version, .. } = ask::open(image, view)?;
                 Ok(format!("chunk {id} block {block} version {version}"))
             }
-            Question::Map { name } => Ok(format!("id {}", ask::find(image, name)?)),
+            Question::Map { name } => Ok(format!("id {}", ask::find(image, view, name)?)),
             Question::Root { id } => {
-                let map = map_of(&Store::open(image)?, *id, Kind::Text)?;
+                let map = map_of(&opened(image, view)?, *id, Kind::Text)?;
                 Ok(format!("root {}", map.root))
             }
             Question::Chunk { id } => {
-                let chunk = Store::open(image)?.locate(*id, QUESTIONS)?;
+                let chunk = opened(image, view)?.locate(*id, QUESTIONS)?;
                 Ok(format!("block {}", chunk.block))
             }
-            Question::Page { position, map, kind } => page(image, *position, *map, *kind),
+            Question::Page { position, map, kind } => {
+                page(&opened(image, view)?, *position, *map, *kind)
+            }
         }
     }
 }
 
+fn opened(image: &[u8], view: View) -> Outcome<Store<'_>> {
+    Store::open(image, view.judge()?)
+}
+
 /// A page as the root of a map, and how many keys it has.
-fn page(image: &[u8], position: u64, map: u64, kind: u64) -> Outcome<String> {
-    let store = Store::open(image)?;
+fn page(store: &Store, position: u64, map: u64, kind: u64) -> Outcome<String> {
     let map = Map { id: map, kind: Kind::of(kind)?, root: position };
-    let page = read(&store, &map, position, 1, QUESTIONS)?;
+    let page = read(store, &map, position, 1, QUESTIONS)?;
     let name = match page.body {
         Body::Leaf(_) => "leaf",
         Body::Inner(_) => "inner",

@@ -1,5 +1,6 @@
 //! Standing chunks.
 
+use super::fletcher::Edition;
 use super::image::{Image, BLOCK};
 use super::line::{summed_line, text_of, Line, CHUNK_HEADER, FOOTER};
 
@@ -34,13 +35,13 @@ impl Chunk {
 /// "A chunk stands at block b if b is at least 2; its header line has chunk, block, len, next,
 /// pages, root, version; chunk is below 2^26; block is b; len is at least 1; b+len is at most the
 /// image's blocks; and [its footer agrees]".
-pub fn stands_at(image: &Image, b: u64) -> Option<Chunk> {
+pub fn stands_at(image: &Image, edition: Edition, b: u64) -> Option<Chunk> {
     if b < 2 {
         return None;
     }
     let chunk = header_at(image, b)?;
     let within = chunk.block == b && chunk.len >= 1 && chunk.len <= image.blocks - b;
-    (chunk.id < CHUNK_IDS && within && footer_agrees(image, &chunk)).then_some(chunk)
+    (chunk.id < CHUNK_IDS && within && footer_agrees(image, edition, &chunk)).then_some(chunk)
 }
 
 /// The header line at block b, if the image has that block.
@@ -61,9 +62,9 @@ fn header_at(image: &Image, b: u64) -> Option<Chunk> {
 
 /// "the last 128 bytes of block b+len-1 are a footer line with a right `fletcher` and the same
 /// chunk, block and version. (Source 003's code doesn't compare the version; here it counts.)"
-fn footer_agrees(image: &Image, chunk: &Chunk) -> bool {
+fn footer_agrees(image: &Image, edition: Edition, chunk: &Chunk) -> bool {
     let area = image.block_end(chunk.end() - 1, FOOTER);
-    let Some(line) = area.and_then(summed_line) else {
+    let Some(line) = area.and_then(|area| summed_line(edition, area)) else {
         return false;
     };
     line.value("chunk") == Some(chunk.id)

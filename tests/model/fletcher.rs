@@ -1,6 +1,41 @@
-//! The sum `fletcher` of a text.
+//! The sum `fletcher` of a text, in two editions.
+
+use super::refusal::{Outcome, ARGUMENT};
 
 const MODULUS: u32 = 65535;
+
+/// 02, C-16: "opening takes an edition, 1 as in 01 or 2, and every line in that image is judged by
+/// it".
+#[derive(Clone, Copy, Debug, PartialEq, Eq)]
+pub enum Edition {
+    First,
+    Second,
+}
+
+impl Edition {
+    /// "Refusals: edition not 1 or 2 is 1."
+    pub fn of(number: u64) -> Outcome<Edition> {
+        match number {
+            1 => Ok(Edition::First),
+            2 => Ok(Edition::Second),
+            _ => Err(ARGUMENT),
+        }
+    }
+
+    pub fn number(self) -> u64 {
+        match self {
+            Edition::First => 1,
+            Edition::Second => 2,
+        }
+    }
+
+    pub fn other(self) -> Edition {
+        match self {
+            Edition::First => Edition::Second,
+            Edition::Second => Edition::First,
+        }
+    }
+}
 
 /// Both running sums, reduced below 65535.
 #[derive(Clone, Copy)]
@@ -36,9 +71,23 @@ fn written(sum: u32) -> u32 {
     }
 }
 
-/// The sum of a text "as 16-bit words, high byte first. The documents' footer example settles an
-/// odd last byte: it is not counted."
-pub fn fletcher(text: &[u8]) -> u64 {
-    let words = text.chunks_exact(2).map(|w| u32::from(w[0]) * 256 + u32::from(w[1]));
-    words.fold(Sums::start(), Sums::word).value()
+/// The sum of a text "as 16-bit words, high byte first".
+pub fn fletcher(edition: Edition, text: &[u8]) -> u64 {
+    let words = text.chunks_exact(2);
+    let odd = words.remainder().first().copied();
+    let whole = words.map(|w| u32::from(w[0]) * 256 + u32::from(w[1]));
+    whole
+        .chain(odd.and_then(|byte| odd_word(edition, byte)))
+        .fold(Sums::start(), Sums::word)
+        .value()
+}
+
+/// The word of an odd last byte, where it has one.
+fn odd_word(edition: Edition, byte: u8) -> Option<u32> {
+    match edition {
+        // "The documents' footer example settles an odd last byte: it is not counted."
+        Edition::First => None,
+        // 02, C-16: "counts an odd last byte as the high half of a word whose low half is 0"
+        Edition::Second => Some(u32::from(byte) * 256),
+    }
 }

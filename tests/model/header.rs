@@ -1,5 +1,6 @@
 //! The two file header copies.
 
+use super::fletcher::Edition;
 use super::image::{Image, BLOCK};
 use super::line::summed_line;
 
@@ -19,8 +20,8 @@ pub struct Named {
 
 /// "A file header copy (block 0, block 1) is good if its line has a right `fletcher`, H:2,
 /// blockSize:1000, format:1, and either all of block, chunk, version or none."
-pub fn good_copy(image: &Image, block: u64) -> Option<Header> {
-    let line = summed_line(image.block_start(block, BLOCK)?)?;
+pub fn good_copy(image: &Image, edition: Edition, block: u64) -> Option<Header> {
+    let line = summed_line(edition, image.block_start(block, BLOCK)?)?;
     let due = [("H", 2), ("blockSize", 0x1000), ("format", 1)];
     if !due.iter().all(|&(name, value)| line.value(name) == Some(value)) {
         return None;
@@ -36,10 +37,10 @@ pub fn good_copy(image: &Image, block: u64) -> Option<Header> {
 
 /// "Both good: the larger version, a copy without version counting lowest, the first copy at a
 /// tie."
-pub fn chosen_copy(image: &Image) -> Option<Header> {
+pub fn chosen_copy(image: &Image, edition: Edition) -> Option<Header> {
     // No version is the lowest: `None` is below every `Some`.
     let version = |header: &Header| header.named.map(|named| named.version);
-    match (good_copy(image, 0), good_copy(image, 1)) {
+    match (good_copy(image, edition, 0), good_copy(image, edition, 1)) {
         (Some(first), Some(second)) if version(&second) > version(&first) => Some(second),
         (Some(first), _) => Some(first),
         (None, second) => second,

@@ -1,7 +1,7 @@
 //! "The text lines": their areas, their fields, and the field `fletcher`.
 
 use super::bytes::digits_value;
-use super::fletcher::fletcher;
+use super::fletcher::{fletcher, Edition};
 
 /// "a chunk header's first 1,024 bytes"
 pub const CHUNK_HEADER: u64 = 1024;
@@ -57,16 +57,16 @@ pub fn field(part: &[u8]) -> Option<(&[u8], u64)> {
 }
 
 /// "File headers and footers end with the field `fletcher`. It covers the bytes before the comma
-/// in front of it".
-pub fn sum_is_right(text: &[u8]) -> bool {
+/// in front of it". 02, C-16: "every line in that image is judged by [the edition]".
+pub fn sum_is_right(edition: Edition, text: &[u8]) -> bool {
     let Some(comma) = text.iter().rposition(|&byte| byte == b',') else {
         return false;
     };
-    field(&text[comma + 1..]) == Some((b"fletcher", fletcher(&text[..comma])))
+    field(&text[comma + 1..]) == Some((b"fletcher", fletcher(edition, &text[..comma])))
 }
 
 /// The line of a file header's or a footer's area, if its `fletcher` is right.
-pub fn summed_line(area: &[u8]) -> Option<Line<'_>> {
+pub fn summed_line(edition: Edition, area: &[u8]) -> Option<Line<'_>> {
     let text = text_of(area)?.text;
-    sum_is_right(text).then(|| Line::new(text)).flatten()
+    sum_is_right(edition, text).then(|| Line::new(text)).flatten()
 }

@@ -5,6 +5,7 @@ use std::collections::HashMap;
 
 use super::bytes::digits;
 use super::chunk::{stands_at, Chunk};
+use super::fletcher::Edition;
 use super::image::Image;
 use super::key::{Key, Kind};
 use super::line::Line;
@@ -19,6 +20,7 @@ pub const QUESTIONS: u32 = 8;
 /// An opened image, for the length of one call.
 pub struct Store<'a> {
     pub image: Image<'a>,
+    pub edition: Edition,
     pub newest: Chunk,
     /// What a chunk's question answered with so many left: only the running time depends on it.
     answered: RefCell<HashMap<(u64, u32), Outcome<Chunk>>>,
@@ -26,10 +28,10 @@ pub struct Store<'a> {
 
 impl<'a> Store<'a> {
     /// "Each public call opens the image itself".
-    pub fn open(lent: &'a [u8]) -> Outcome<Store<'a>> {
+    pub fn open(lent: &'a [u8], edition: Edition) -> Outcome<Store<'a>> {
         let image = Image::new(lent)?;
-        let newest = newest(&image)?;
-        Ok(Store { image, newest, answered: RefCell::default() })
+        let newest = newest(&image, edition)?;
+        Ok(Store { image, edition, newest, answered: RefCell::default() })
     }
 
     /// "Metadata is map 0, kind 1, its root in the newest chunk's header."
@@ -61,7 +63,7 @@ impl<'a> Store<'a> {
         let value = lookup(self, &self.metadata(), Key::Text(&key), left)?.ok_or(NO_CHUNK)?;
         let line = Line::new(self.image.bytes_of(value)).ok_or(NO_CHUNK)?;
         let block = line.value("block").ok_or(NO_CHUNK)?;
-        let standing = stands_at(&self.image, block).filter(|standing| standing.id == chunk);
-        standing.ok_or(NO_CHUNK)
+        let standing = stands_at(&self.image, self.edition, block);
+        standing.filter(|standing| standing.id == chunk).ok_or(NO_CHUNK)
     }
 }

@@ -6,7 +6,7 @@
 //! | `refusal`  | "Numbers given back" |
 //! | `image`    | "What is read" |
 //! | `bytes`    | big-endian and variable-size numbers, hex digits |
-//! | `fletcher`, `line` | "The text lines" |
+//! | `fletcher`, `line` | "The text lines", and 02's C-16: two editions |
 //! | `header`, `chunk`, `opening` | "Opening" |
 //! | `position`, `locate`, `key`, `page` | "Positions and pages" |
 //! | `map`, `lookup`, `index`, `walk`, `reached`, `sound`, `examine` | "Asking" |

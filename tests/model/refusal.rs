@@ -7,7 +7,8 @@ pub struct Refusal(pub u8);
 /// An answer, or the number with which it is refused.
 pub type Outcome<T> = Result<T, Refusal>;
 
-/// "kind not 0 or 1; map 0 with kind 0; map id above 2^31-1; key badly formed; map name"
+/// "kind not 0 or 1; map 0 with kind 0; map id above 2^31-1; key badly formed; map name"; 02, C-16:
+/// "edition not 1 or 2"
 pub const ARGUMENT: Refusal = Refusal(1);
 /// "image outside its block range; program input over 65,536 bytes"
 pub const IMAGE_SIZE: Refusal = Refusal(2);

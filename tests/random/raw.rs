@@ -2,11 +2,12 @@
 
 use super::Random;
 use crate::build::plan::write;
-use crate::model::fletcher::fletcher;
+use crate::model::fletcher::{fletcher, Edition};
 use crate::model::image::BLOCK;
 
-/// One piece of damage. Most of an image is zeros, so that most flips are aimed at other bytes.
-pub fn damage(random: &mut Random, image: &mut Vec<u8>) {
+/// One piece of damage. Most of an image is zeros, so that most flips are aimed at other bytes. Sums
+/// are repaired by an edition.
+pub fn damage(random: &mut Random, edition: Edition, image: &mut Vec<u8>) {
     if image.is_empty() {
         return;
     }
@@ -14,7 +15,7 @@ pub fn damage(random: &mut Random, image: &mut Vec<u8>) {
         0 => cut(random, image),
         1 => move_block(random, image),
         2 => overwrite(random, image),
-        3 | 4 => flip_line(random, image),
+        3 | 4 => flip_line(random, edition, image),
         _ => (0..random.range(1, 3)).for_each(|_| flip(random, image)),
     }
 }
@@ -62,7 +63,7 @@ fn overwrite(random: &mut Random, image: &mut [u8]) {
 }
 
 /// Changes a byte of a header's or a footer's line and writes the right sum behind it.
-fn flip_line(random: &mut Random, image: &mut [u8]) {
+fn flip_line(random: &mut Random, edition: Edition, image: &mut [u8]) {
     let blocks = image.len() as u64 / BLOCK;
     if blocks < 3 {
         return;
@@ -78,17 +79,17 @@ fn flip_line(random: &mut Random, image: &mut [u8]) {
     if length > 0 {
         let at = start + random.below(length as u64) as usize;
         image[at] = changed(random, image[at]);
-        repair_sum(&mut image[start..start + length]);
+        repair_sum(edition, &mut image[start..start + length]);
     }
 }
 
 /// Rewrites the digits after `,fletcher:` in place, if the right ones take as much room.
-pub fn repair_sum(line: &mut [u8]) {
+fn repair_sum(edition: Edition, line: &mut [u8]) {
     const FIELD: &[u8] = b",fletcher:";
     let Some(comma) = line.windows(FIELD.len()).rposition(|window| window == FIELD) else {
         return;
     };
-    let digits = format!("{:x}", fletcher(&line[..comma])).into_bytes();
+    let digits = format!("{:x}", fletcher(edition, &line[..comma])).into_bytes();
     let place = &mut line[comma + FIELD.len()..];
     if place.len() == digits.len() {
         place.copy_from_slice(&digits);

@@ -5,6 +5,7 @@ use super::tree::{tree, Shape};
 use super::Random;
 use crate::build::plan::Plan;
 use crate::build::tree::{Entries, MapPlan};
+use crate::model::fletcher::Edition;
 use crate::model::page::DEEPEST;
 use crate::subject::MapArgs;
 
@@ -12,6 +13,8 @@ use crate::subject::MapArgs;
 const METADATA_ROOM: u64 = 3500;
 
 pub struct RandomStore {
+    /// The edition of all sums.
+    pub edition: Edition,
     pub plan: Plan,
     pub maps: Vec<RandomMap>,
     /// Every map must be found as it was built: all metadata lies in the newest chunk, so that no
@@ -35,8 +38,10 @@ pub fn store(random: &mut Random) -> RandomStore {
     let shape = metadata_shape(random, &plan, newest, plain);
     let metadata_levels = add_metadata(random, &mut plan, &maps, &positions, newest, &shape);
     add_headers(random, &mut plan, newest);
+    let edition = *random.pick(&[Edition::First, Edition::Second]);
+    plan.set_edition(edition);
     let deepest = levels.into_iter().fold(metadata_levels, u64::max);
-    RandomStore { plan, maps, plain: plain && deepest <= DEEPEST }
+    RandomStore { edition, plan, maps, plain: plain && deepest <= DEEPEST }
 }
 
 /// One to six chunks; the newest, given back by its number, may be anywhere.

@@ -1,6 +1,7 @@
 //! Asks the model and each subject, and compares.
 
-use super::{Call, Question, Refusals, Reply, Subject, Tally, CALLS};
+use super::{Asks, Call, Question, Refusals, Reply, Subject, Tally, CALLS};
+use crate::model::ask::View;
 
 #[derive(Default)]
 pub struct Judge {
@@ -25,10 +26,10 @@ impl Judge {
     }
 
     /// From here on the questions are about another image; the first is what it opens to.
-    pub fn image(&mut self, name: &str, image: &[u8]) -> Reply {
+    pub fn image(&mut self, name: &str, image: &[u8], view: View) -> Reply {
         self.tally.images += 1;
         self.image = name.to_string();
-        self.ask(image, &Question::Open)
+        self.ask(image, &Asks::Open.under(view))
     }
 
     /// The model's reply, after each subject's was held against it.

@@ -13,7 +13,7 @@ mod tally;
 
 pub use judge::Judge;
 pub use listing::Listing;
-pub use question::{Call, MapArgs, Question};
+pub use question::{Asks, Call, MapArgs, Question};
 pub use refusals::{Refusals, CALLS};
 pub use reply::{Answer, Reply};
 pub use tally::Tally;

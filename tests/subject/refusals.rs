@@ -1,6 +1,6 @@
 //! How often each refusal number was given in each call.
 
-use super::{Answer, Call, Question, Reply};
+use super::{Answer, Asks, Call, Question, Reply};
 use crate::model::refusal::LAST;
 use crate::model::walk::is_final;
 
@@ -25,7 +25,7 @@ pub struct Refusals {
 impl Refusals {
     /// An answer that a walk's state brought along and is given again was not reached here.
     pub fn count(&mut self, question: &Question, reply: &Reply) {
-        let again = matches!(question, Question::Walk { state, .. } if is_final(state.last));
+        let again = matches!(&question.asks, Asks::Walk { state, .. } if is_final(state.last));
         let column = column(question.call()).filter(|_| !again);
         if let (Some(column), Some(number)) = (column, refused(&reply.answer)) {
             self.given[number as usize][column] += 1;
@@ -82,16 +82,16 @@ fn cell(can_occur: bool, reached: u64) -> String {
 
 /// Whether a call can be refused with a number.
 ///
-/// Opening alone takes no arguments and reads no page: 2, 3 and 4. Every other call reads metadata
+/// Opening alone takes an edition and reads no page: 1 to 4. Every other call reads metadata
 /// pages, to find an id or a root, so 5 to 11 occur in each: the count's own page is at depth 1,
 /// but the metadata that holds its root may be too deep. 12 belongs to examination and walk. Only
 /// finding a name asks for one: 13. An id that is no number meets the finding, a root that is no
-/// number all calls that take an id: 14. 15 is the index's, 16 the copy's. The listing's name and
-/// kind are fixed and its id is one that was found: all of 2 to 14.
+/// number all calls that take an id: 14. 15 is the index's, 16 the copy's. The listing's edition,
+/// name and kind are fixed and its id is one that was found: all of 2 to 14.
 fn can_occur(number: u8, call: Call) -> bool {
     match number {
         2..=4 => true,
-        1 => call != Call::Open && call != Call::List,
+        1 => call != Call::List,
         5..=11 | 14 => call != Call::Open,
         12 => matches!(call, Call::Walk | Call::Examine | Call::List),
         13 => matches!(call, Call::Find | Call::List),

@@ -2,9 +2,9 @@
 
 use std::fmt;
 
-use super::question::{state_words, MapArgs, Question};
+use super::question::{state_words, Asks, MapArgs, Question};
 use super::AREA_FILL;
-use crate::model::ask;
+use crate::model::ask::{self, View};
 use crate::model::examine::Report;
 use crate::model::image::Span;
 use crate::model::index::{Entry, GivenKey};
@@ -40,27 +40,28 @@ pub struct Reply {
 impl Reply {
     /// The model's reply.
     pub fn of_model(image: &[u8], question: &Question) -> Reply {
-        let answer = match question {
-            Question::Open => given(ask::open(image), |chunk| Answer::Chunk {
+        let view = question.view;
+        let answer = match &question.asks {
+            Asks::Open => given(ask::open(image, view), |chunk| Answer::Chunk {
                 id: chunk.id,
                 block: chunk.block,
                 blocks: chunk.len,
                 version: chunk.version,
             }),
-            Question::Find { name } => given(ask::find(image, name), Answer::Id),
-            Question::Lookup { map, key } => {
-                given(ask::lookup(image, map.id, map.kind, key), value_or_absent)
+            Asks::Find { name } => given(ask::find(image, view, name), Answer::Id),
+            Asks::Lookup { map, key } => {
+                given(ask::lookup(image, view, map.id, map.kind, key), value_or_absent)
             }
-            Question::Index { map, at } => {
-                given(ask::index(image, map.id, map.kind, *at), Answer::Entry)
+            Asks::Index { map, at } => {
+                given(ask::index(image, view, map.id, map.kind, *at), Answer::Entry)
             }
-            Question::Count { map } => given(ask::count(image, map.id, map.kind), Answer::Count),
-            Question::Copy { map, key, area } => return copied(image, map, key, *area),
-            Question::Walk { map, state } => return walked(image, map, *state),
-            Question::Examine { map } => {
-                given(ask::examine(image, map.id, map.kind), Answer::Report)
+            Asks::Count { map } => given(ask::count(image, view, map.id, map.kind), Answer::Count),
+            Asks::Copy { map, key, area } => return copied(image, view, map, key, *area),
+            Asks::Walk { map, state } => return walked(image, view, map, *state),
+            Asks::Examine { map } => {
+                given(ask::examine(image, view, map.id, map.kind), Answer::Report)
             }
-            Question::List => Answer::Text(listing(image)),
+            Asks::List => Answer::Text(listing(image)),
         };
         Reply { answer, area: None, state: None }
     }
@@ -82,14 +83,14 @@ fn value_or_absent(value: Option<Span>) -> Answer {
     value.map_or(Answer::Absent, Answer::Value)
 }
 
-fn copied(image: &[u8], map: &MapArgs, key: &[u8], length: usize) -> Reply {
+fn copied(image: &[u8], view: View, map: &MapArgs, key: &[u8], length: usize) -> Reply {
     let mut area = vec![AREA_FILL; length];
-    let outcome = ask::copy(image, map.id, map.kind, key, &mut area);
+    let outcome = ask::copy(image, view, map.id, map.kind, key, &mut area);
     Reply { answer: given(outcome, value_or_absent), area: Some(area), state: None }
 }
 
-fn walked(image: &[u8], map: &MapArgs, mut state: State) -> Reply {
-    let outcome = ask::walk(image, map.id, map.kind, &mut state);
+fn walked(image: &[u8], view: View, map: &MapArgs, mut state: State) -> Reply {
+    let outcome = ask::walk(image, view, map.id, map.kind, &mut state);
     let answer = given(outcome, |step| match step {
         Step::Yield(entry) => Answer::Entry(entry),
         Step::Done => Answer::Done,

@@ -4,7 +4,7 @@ use std::cmp::Ordering;
 
 use super::{bytes_word, word_bytes};
 use crate::model::bytes::{big_endian, digits, digits_value, variable};
-use crate::model::fletcher::fletcher;
+use crate::model::fletcher::{fletcher, Edition};
 use crate::model::key::{key_at, well_formed, Kind};
 use crate::model::line::{sum_is_right, text_of, Line};
 use crate::model::position::{bound, check_value, Position};
@@ -29,9 +29,12 @@ pub fn answer(question: &str) -> Option<String> {
     let words: Vec<&str> = question.split(' ').collect();
     let number = |i: usize| u64::from_str_radix(words.get(i)?, 16).ok();
     let bytes = |i: usize| word_bytes(words.get(i)?);
+    let edition = || Edition::of(number(1)?).ok();
+    let filled = |i: usize| Some(vec![number(i)? as u8; number(i + 1)? as usize]);
     Some(match words[0] {
-        "sum" => plain(fletcher(&bytes(1)?)),
-        "fill" | "words" => plain(fletcher(&vec![number(1)? as u8; number(2)? as usize])),
+        "sum" => plain(fletcher(edition()?, &bytes(2)?)),
+        "fill" => plain(fletcher(edition()?, &filled(2)?)),
+        "words" => plain(fletcher(Edition::First, &filled(1)?)),
         "hex" => digits_value(&bytes(1)?).map_or("bad".to_string(), plain),
         "digits" => bytes_word(&digits(number(1)?)),
         "be" => plain(big_endian(&bytes(3)?, number(2)?, number(1)?).unwrap_or(0)),
@@ -42,7 +45,7 @@ pub fn answer(question: &str) -> Option<String> {
         "check" => plain(check_value(number(1)?, number(2)?, number(3)?)),
         "line" => line(&bytes(1)?),
         "fields" => fields(&bytes(1)?),
-        "right" => yes(sum_is_right(&bytes(1)?)),
+        "right" => yes(sum_is_right(edition()?, &bytes(2)?)),
         "key" => key(kind(number(1)?)?, number(2)?, &bytes(3)?),
         "wellformed" => yes(well_formed(kind(number(1)?)?, &bytes(2)?).is_some()),
         "compare" => compare(kind(number(1)?)?, &bytes(2)?, &bytes(3)?)?,

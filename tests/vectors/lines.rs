@@ -1,7 +1,7 @@
 //! Questions about lines: areas, fields, and the field `fletcher`.
 
-use super::bytes_word;
-use crate::model::fletcher::fletcher;
+use super::{both, bytes_word};
+use crate::model::fletcher::{fletcher, Edition};
 
 const FOOTER: &str = "chunk:1,block:2,version:1";
 /// The documents' file header line: example (b).
@@ -39,11 +39,14 @@ fn areas() -> Vec<String> {
         "block:2   \n\0\0\0block:3\n",
     ];
     let mut out: Vec<String> = texts.iter().map(|t| question("line", t.as_bytes())).collect();
-    // The newline as the last byte of a footer's and of a chunk header's area, and one past it.
+    // The newline as the last byte of a footer's and of a chunk header's area, one past it, and
+    // without it.
     for length in [127, 128, 1023, 1024] {
         let spaced = [vec![b'x'; 3], vec![b' '; length - 3], vec![b'\n']].concat();
         out.push(question("line", &spaced));
-        out.push(question("line", &spaced[..length]));
+        if length != 1023 {
+            out.push(question("line", &spaced[..length]));
+        }
     }
     out
 }
@@ -87,9 +90,9 @@ fn bad_texts() -> Vec<Vec<u8>> {
     out
 }
 
-/// The field `fletcher`: right, wrong, in the wrong place, badly written, over odd and even texts.
+/// The field `fletcher`: right in an edition, wrong, in the wrong place, badly written, over odd and
+/// even texts.
 fn rights() -> Vec<String> {
-    let sum = |text: &str| format!("{:x}", fletcher(text.as_bytes()));
     let mut texts = vec![
         format!("{FOOTER},fletcher:aed9a4f6"),
         format!("{FOOTER},fletcher:aed9a4f7"),
@@ -105,18 +108,23 @@ fn rights() -> Vec<String> {
         format!("{FOOTER},fletcher:"),
         format!("{FOOTER},fletcher"),
         format!("{FOOTER}, fletcher:aed9a4f6"),
+        format!("{FOOTER}a,fletcher:8531d657"),
         FOOTER.to_string(),
         DOCUMENT_HEADER.to_string(),
         DOCUMENT_HEADER.replace("3044e6cc", "1a2bd87b"),
+        DOCUMENT_HEADER.replace("3044e6cc", "29a70f7c"),
         String::new(),
         "fletcher:ffffffff".to_string(),
         ",fletcher:ffffffff".to_string(),
         ",".to_string(),
     ];
     for text in ["x", "xy", "x,", "no line at all", "a:1,,b:2", "a:1,a:1", "fletcher:1"] {
-        texts.push(format!("{text},fletcher:{}", sum(text)));
+        let mut sums =
+            [Edition::First, Edition::Second].map(|e| fletcher(e, text.as_bytes())).to_vec();
+        sums.dedup();
+        texts.extend(sums.iter().map(|sum| format!("{text},fletcher:{sum:x}")));
     }
-    texts.iter().map(|t| question("right", t.as_bytes())).collect()
+    texts.iter().flat_map(|text| both("right", &bytes_word(text.as_bytes()))).collect()
 }
 
 fn question(word: &str, bytes: &[u8]) -> String {

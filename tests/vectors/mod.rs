@@ -6,15 +6,15 @@
 //!
 //! | question | answer |
 //! |---|---|
-//! | `sum BYTES`, `fill BYTE COUNT` | the fletcher value |
-//! | `words BYTE COUNT` | the same as of `fill`, to be found a word at a time |
+//! | `sum EDITION BYTES`, `fill EDITION BYTE COUNT` | the fletcher value |
+//! | `words BYTE COUNT` | the same as of `fill`, in either edition, to be found a word at a time |
 //! | `hex BYTES`, `digits NUMBER` | the value or `bad`; the digits as a byte string |
 //! | `be WIDTH AT BYTES` | the number, 0 where the bytes do not all stand there |
 //! | `var LIMIT AT BYTES` | `VALUE NEXT` or `bad` |
 //! | `position NUMBER`, `make CHUNK OFFSET CODE TYPE` | taken apart; the position or `bad` |
 //! | `bound CODE`, `check CHUNK OFFSET LENGTH` | most bytes or `none`; the check value |
 //! | `line AREA` | `LENGTH NEWLINE` or `none` |
-//! | `fields TEXT`, `right TEXT` | values or `bad`; `yes` or `no` |
+//! | `fields TEXT`, `right EDITION TEXT` | values or `bad`; `yes` or `no` |
 //! | `key KIND AT BYTES` | `AT LENGTH NEXT` or `bad` |
 //! | `wellformed KIND KEY`, `compare KIND A B` | `yes` or `no`; `less`, `equal` or `greater` |
 
@@ -23,12 +23,25 @@ mod keys;
 mod lines;
 mod numbers;
 mod seeded;
+mod sums;
 
 pub use answer::answer;
 
 /// All questions: chosen ones in the order of 01, then some from a seed.
 pub fn questions() -> Vec<String> {
-    [numbers::questions(), lines::questions(), keys::questions(), seeded::questions()].concat()
+    [
+        sums::questions(),
+        numbers::questions(),
+        lines::questions(),
+        keys::questions(),
+        seeded::questions(),
+    ]
+    .concat()
+}
+
+/// A question in both editions.
+fn both(word: &str, rest: &str) -> [String; 2] {
+    [1, 2].map(|edition| format!("{word} {edition} {rest}"))
 }
 
 /// A byte string as an argument.

@@ -1,55 +1,11 @@
-//! Questions about sums, hex digits, big-endian and variable-size numbers, and positions.
+//! Questions about hex digits, big-endian and variable-size numbers, and positions.
 
 use super::bytes_word;
 use crate::build::page::variable;
 use crate::model::position::check_value;
 
 pub fn questions() -> Vec<String> {
-    [sums(), fills(), hexes(), big_endians(), variables(), positions(), bounds(), checks()].concat()
-}
-
-/// 01's examples (a), (b), (c); H2's own; and texts around the odd last byte.
-fn sums() -> Vec<String> {
-    let texts = [
-        "",
-        "c",
-        "ch",
-        "chu",
-        "Fletcher32",
-        "chunk:1,block:2,version:1",
-        "chunk:1,block:2,version:12",
-        "H:2,block:2,blockSize:1000,chunk:7,created:1441235ef73,format:1,version:7",
-    ];
-    let mut out: Vec<String> = texts.iter().map(|t| sum(t.as_bytes())).collect();
-    // Sums that come to 0 modulo 65535, before and after reduction.
-    let words: [&[u8]; 8] = [
-        &[0xff, 0xff],
-        &[0xff, 0xfe],
-        &[0x00, 0x01],
-        &[0x00, 0x01, 0xff, 0xfe],
-        &[0xff, 0xff, 0xff, 0xff],
-        &[0x80, 0x00, 0x7f, 0xff, 0x00],
-        &[0xff, 0xfe, 0x00, 0x01, 0x00, 0x01],
-        &[0x01, 0x00],
-    ];
-    out.extend(words.iter().map(|w| sum(w)));
-    out
-}
-
-fn sum(text: &[u8]) -> String {
-    format!("sum {}", bytes_word(text))
-}
-
-/// Long texts: H2's own ten thousand bytes of value 10, and runs around 360 and 720 words, where
-/// sums that were not reduced in time would pass 2^32.
-fn fills() -> Vec<String> {
-    let mut out = vec!["fill a 2710".to_string()];
-    for byte in [0, 1, 0x61, 0x80, 0xfe, 0xff] {
-        let counts = [0..=3, 718..=723, 1440..=1443, 4088..=4088, 65536..=65536];
-        out.extend(counts.into_iter().flatten().map(|count| format!("fill {byte:x} {count:x}")));
-        out.extend([0, 2, 722, 1442, 65536].map(|count| format!("words {byte:x} {count:x}")));
-    }
-    out
+    [hexes(), big_endians(), variables(), positions(), bounds(), checks()].concat()
 }
 
 /// Good digits and digits that break the rule.

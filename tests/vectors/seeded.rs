@@ -1,6 +1,6 @@
 //! Questions from a seed: what the chosen ones may have missed.
 
-use super::bytes_word;
+use super::{both, bytes_word};
 use crate::random::Random;
 
 const SEED: u64 = 8;
@@ -10,18 +10,16 @@ pub fn questions() -> Vec<String> {
     let mut out = Vec::new();
     for _ in 0..16 {
         let length = random.below(90);
-        out.push(format!("sum {}", bytes_word(&bytes(&mut random, length))));
-        out.push(format!("fill {:x} {:x}", random.below(256), random.below(0x4000)));
+        out.extend(both("sum", &bytes_word(&bytes(&mut random, length))));
+        out.extend(both("fill", &format!("{:x} {:x}", random.below(256), random.below(0x4000))));
         out.push(format!("position {:x}", random.draw() >> random.below(64)));
         let [chunk, offset, length] = [26, 32, 32].map(|bits| random.draw() >> (64 - bits));
         out.push(format!("check {chunk:x} {offset:x} {length:x}"));
         out.push(variable(&mut random));
         out.push(format!("key 1 0 {}", bytes_word(&key(&mut random))));
     }
-    // 360 words, which are added before the sums are reduced, and 721; each with an odd last byte.
-    for length in [721, 1443] {
-        out.push(format!("sum {}", bytes_word(&bytes(&mut random, length))));
-    }
+    // 360 words, which are added before the sums are reduced, and an odd last byte.
+    out.extend(both("sum", &bytes_word(&bytes(&mut random, 721))));
     out
 }
 

@@ -10,47 +10,48 @@ use crate::model::map::Map;
 use crate::model::page::{Body, Page};
 use crate::model::position::EMPTY;
 use crate::model::refusal::{Outcome, ARGUMENT, INDEX, NOT_A_NUMBER, NO_NAME, UNSOUND};
-use crate::subject::{Answer, MapArgs, Question};
+use crate::subject::{Answer, Asks, MapArgs, Question};
 
 /// The answer without what is written, and what it needs. Arguments are taken to be good.
 pub fn ask(image: &[u8], question: &Question) -> (Answer, Work) {
-    let mut reader = match Reader::open(image) {
+    let edition = question.view.judge();
+    let mut reader = match edition.and_then(|edition| Reader::open(image, edition)) {
         Ok(reader) => reader,
         Err(refusal) => return (Answer::Refused(refusal), Work::default()),
     };
-    let answer = reader.ask(question).unwrap_or_else(Answer::Refused);
+    let answer = reader.ask(&question.asks).unwrap_or_else(Answer::Refused);
     (answer, reader.work)
 }
 
 impl<'a> Reader<'a> {
-    fn ask(&mut self, question: &Question) -> Outcome<Answer> {
-        match question {
-            Question::Find { name } => self.number(b"name.", name)?.ok_or(NO_NAME).map(Answer::Id),
-            Question::Lookup { map, key } | Question::Copy { map, key, .. } => {
+    fn ask(&mut self, asks: &Asks) -> Outcome<Answer> {
+        match asks {
+            Asks::Find { name } => self.number(b"name.", name)?.ok_or(NO_NAME).map(Answer::Id),
+            Asks::Lookup { map, key } | Asks::Copy { map, key, .. } => {
                 let map = self.map(map)?;
                 let key = well_formed(map.kind, key).ok_or(ARGUMENT)?;
                 let (value, _) = self.lookup(&map, key, QUESTIONS)?;
                 Ok(value.map_or(Answer::Absent, Answer::Value))
             }
-            Question::Index { map, at } => {
+            Asks::Index { map, at } => {
                 let map = self.map(map)?;
                 self.index(&map, *at).map(Answer::Entry)
             }
-            Question::Count { map } => {
+            Asks::Count { map } => {
                 let map = self.map(map)?;
                 self.page(&map, map.root, 1).map(|root| Answer::Count(total(&root)))
             }
-            Question::Walk { map, state } => {
+            Asks::Walk { map, state } => {
                 let map = self.map(map)?;
                 let entry = self.step(&map, &state.places[..state.depth as usize])?;
                 Ok(entry.map_or(Answer::Done, Answer::Entry))
             }
-            Question::Examine { map } => {
+            Asks::Examine { map } => {
                 let map = self.map(map)?;
                 let everything = Between { left: None, right: None };
                 self.examine(&map, map.root, 1, everything).map(Answer::Report)
             }
-            Question::Open | Question::List => unreachable!("these are no calls of the interface"),
+            Asks::Open | Asks::List => unreachable!("these are no calls of the interface"),
         }
     }
 

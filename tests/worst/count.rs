@@ -8,6 +8,7 @@ use std::rc::Rc;
 
 use crate::model::bytes::digits;
 use crate::model::chunk::{stands_at, Chunk};
+use crate::model::fletcher::Edition;
 use crate::model::image::{Image, Span};
 use crate::model::key::{Key, Kind};
 use crate::model::line::field;
@@ -60,6 +61,7 @@ fn risen<'a, T>(page: &Page<'a>, with: impl Fn(usize) -> T) -> Vec<(Key<'a>, T)>
 
 pub struct Reader<'a> {
     pub image: Image<'a>,
+    edition: Edition,
     pub newest: Chunk,
     pub work: Work,
     /// The chunks that were located, each with the questions that it takes.
@@ -69,11 +71,11 @@ pub struct Reader<'a> {
 }
 
 impl<'a> Reader<'a> {
-    pub fn open(lent: &'a [u8]) -> Outcome<Reader<'a>> {
+    pub fn open(lent: &'a [u8], edition: Edition) -> Outcome<Reader<'a>> {
         let image = Image::new(lent)?;
-        let newest = newest(&image)?;
+        let newest = newest(&image, edition)?;
         let (located, kept) = (HashMap::from([(newest.id, (newest, 0))]), HashMap::new());
-        Ok(Reader { image, newest, work: Work::default(), located, kept })
+        Ok(Reader { image, edition, newest, work: Work::default(), located, kept })
     }
 
     pub fn metadata(&self) -> Map {
@@ -140,7 +142,7 @@ impl<'a> Reader<'a> {
         let key = [b"chunk.".to_vec(), digits(id)].concat();
         let (value, taken) = self.lookup(&self.metadata(), Key::Text(&key), left)?;
         let block = block_of(self.image.bytes_of(value.ok_or(NO_CHUNK)?)).ok_or(NO_CHUNK)?;
-        let chunk = stands_at(&self.image, block).filter(|chunk| chunk.id == id);
+        let chunk = stands_at(&self.image, self.edition, block).filter(|chunk| chunk.id == id);
         Ok((chunk.ok_or(NO_CHUNK)?, taken + 1))
     }
 

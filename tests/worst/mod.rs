@@ -34,7 +34,7 @@ pub mod table;
 mod wide;
 
 use crate::build::tree::MapPlan;
-use crate::family::questions::{find, state, FORCES};
+use crate::family::questions::*;
 use crate::subject::{MapArgs, Question};
 
 const KILOBYTE: usize = 1 << 10;
@@ -101,17 +101,17 @@ impl Worst {
         Worst { image, map: FORCES, key, at, places: places.to_vec(), examined }
     }
 
-    /// The seven calls.
+    /// The seven calls that read the metadata, under edition 1, in which these images are built.
     pub fn questions(&self) -> Vec<Question> {
-        let (map, key) = (self.map, self.key.clone());
+        let (map, key) = (self.map, &self.key);
         vec![
             find("forces"),
-            Question::Lookup { map, key: key.clone() },
-            Question::Index { map, at: self.at },
-            Question::Count { map },
-            Question::Copy { map, key, area: 32 },
-            Question::Walk { map, state: state(&self.places) },
-            Question::Examine { map },
+            lookup_bytes(map, key),
+            index_in(map, self.at),
+            count_of(map),
+            copy_bytes(map, key, 32),
+            walk_in(map, &self.places),
+            examine_of(map),
         ]
     }
 }

@@ -1,16 +1,17 @@
 -- When a chunk stands at a block, after document 01, "Opening".
 --
---   Chunk              the struct: id, block, len (in blocks), first (where its pages may begin), next, root, version
---   needed r           a chunk header's reading has all the fields that are needed
---   saidAt image b     the chunk that the header in block b says, whatever its footer is
---   footed image c     the chunk, if its footer is right and says the same chunk, block and version
---   withFooter image s the same of a chunk that a header says
---   standsAt image b   the chunk that stands at block b, if one does
---   kept P s, hasId n  the chunk that stands, if P holds of it; a chunk's id is n
+--   Chunk                       the struct: id, block, len (in blocks), first (where its pages may begin), next, root, version
+--   needed r                    a chunk header's reading has all the fields that are needed
+--   saidAt image b              the chunk that the header in block b says, whatever its footer is
+--   footed image edition c      the chunk, if its footer is right and says the same chunk, block and version
+--   withFooter image edition s  the same of a chunk that a header says
+--   standsAt image edition b    the chunk that stands at block b, if one does
+--   kept P s, hasId n           the chunk that stands, if P holds of it; a chunk's id is n
 use Prim.Native.Nat.{ℕ, suc, _+_, _^_}
 use mathlib.Core.Bool.{Bool, cond, _&&_}
 use mathlib.Core.List.{List}
 use lib.Dec.{eqb, leb, ltb}
+use Rattle.fletcher.specs.declared.Edition.{Edition}
 use Rattle.line.specs.Fields.{nameBlock, nameChunk, nameVersion, nameLen, nameNext, namePages, nameRoot}
 use Rattle.position.specs.Position.{ofBits}
 use Rattle.chunk.specs.declared.image.Reading.{Reading}
@@ -49,8 +50,8 @@ unfoldable pub footerOf : Chunk → Reading → Bool
 footerOf c f =
     says f nameChunk (c .id) && (says f nameBlock (c .block) && says f nameVersion (c .version))
 
-unfoldable pub footed : List ℕ → Chunk → Standing
-footed image c = cond (footerOf c (footerLine image (c .block + c .len))) (Stands c) Nothing
+unfoldable pub footed : List ℕ → Edition → Chunk → Standing
+footed image edition c = cond (footerOf c (footerLine image edition (c .block + c .len))) (Stands c) Nothing
 
 -- "A chunk stands at block b if b is at least 2; [..]": what its header line must say, then its footer
 unfoldable pub saidAt : List ℕ → ℕ → Standing
@@ -58,12 +59,12 @@ saidAt image b =
     let r = chunkLine image b in
     cond (leb 2 b && (needed r && fitting (blocksIn image) b r)) (Stands (chunkBy b r)) Nothing
 
-abbrev pub withFooter : List ℕ → Standing → Standing
-withFooter image Nothing = Nothing
-withFooter image (Stands c) = footed image c
+abbrev pub withFooter : List ℕ → Edition → Standing → Standing
+withFooter image edition Nothing = Nothing
+withFooter image edition (Stands c) = footed image edition c
 
-unfoldable pub standsAt : List ℕ → ℕ → Standing
-standsAt image b = withFooter image (saidAt image b)
+unfoldable pub standsAt : List ℕ → Edition → ℕ → Standing
+standsAt image edition b = withFooter image edition (saidAt image b)
 
 -- ## A chunk that is kept
 abbrev pub kept : (Chunk → Bool) → Standing → Standing

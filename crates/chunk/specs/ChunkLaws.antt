@@ -6,6 +6,7 @@ use mathlib.Core.List.{List}
 use native.Mathlib.Omega.{arith}
 use borrow.Author.Tests.{ltb-true, leb-true, leb-false, eqb-true, le-leb, lt-leb}
 use lib.Dec.{eqb, ltb, leb}
+use Rattle.fletcher.specs.declared.Edition.{Edition}
 use Rattle.line.specs.Fields.{nameBlock, nameChunk, nameLen}
 use Rattle.chunk.specs.declared.image.Reading.{Reading}
 use Rattle.chunk.specs.declared.Chunk.{Chunk}
@@ -106,47 +107,47 @@ module _ (image : List ℕ) (b : ℕ) {c : Chunk} (s : saidAt image b ≡ Stands
   pub said-inside : c .block + c .len ≤ blocksIn image
   said-inside = rw (← said-chunk) (fitting-fits (blocksIn image) b (chunkLine image b) (said-told .2) .inside)
 
-  pub stands-footed : standsAt image b ≡ footed image c
+  pub stands-footed : (edition : Edition) → standsAt image edition b ≡ footed image edition c
   unfolding standsAt
-  stands-footed = rw s
+  stands-footed edition = rw s
 
-pub stands-unsaid : (image : List ℕ) (b : ℕ) → saidAt image b ≡ Nothing → standsAt image b ≡ Nothing
+pub stands-unsaid : (image : List ℕ) (edition : Edition) (b : ℕ) → saidAt image b ≡ Nothing → standsAt image edition b ≡ Nothing
 unfolding standsAt
-stands-unsaid image b s = rw s
+stands-unsaid image edition b s = rw s
 
 -- ## What holds of a chunk that stands
-footed-same : (image : List ℕ) (c : Chunk) {d : Chunk} → footed image c ≡ Stands d → Stands c ≡ Stands d
+footed-same : (image : List ℕ) (edition : Edition) (c : Chunk) {d : Chunk} → footed image edition c ≡ Stands d → Stands c ≡ Stands d
 unfolding footed
-footed-same image c {d} e = go (footerOf c (footerLine image (c .block + c .len))) e
+footed-same image edition c {d} e = go (footerOf c (footerLine image edition (c .block + c .len))) e
   where
     go : (t : Bool) → cond t (Stands c) Nothing ≡ Stands d → Stands c ≡ Stands d
     go true e = e
     go false e = cc
 
 -- it is what the header in its block says
-stands-said : (image : List ℕ) (b : ℕ) {c : Chunk} → standsAt image b ≡ Stands c → saidAt image b ≡ Stands c
+stands-said : (image : List ℕ) (edition : Edition) (b : ℕ) {c : Chunk} → standsAt image edition b ≡ Stands c → saidAt image b ≡ Stands c
 unfolding standsAt
-stands-said image b {c} e = go (saidAt image b) e
+stands-said image edition b {c} e = go (saidAt image b) e
   where
-    go : (s : Standing) → withFooter image s ≡ Stands c → s ≡ Stands c
+    go : (s : Standing) → withFooter image edition s ≡ Stands c → s ≡ Stands c
     go Nothing e = e
-    go (Stands d) e = footed-same image d e
+    go (Stands d) e = footed-same image edition d e
 
 pub record Stood (image : List ℕ) (c : Chunk) : Type 0 where
   pub len-some : 1 ≤ c .len
   pub inside : c .block + c .len ≤ blocksIn image
   pub first-small : c .first ≤ 1024
 
-module _ (image : List ℕ) (b : ℕ) {c : Chunk} (s : standsAt image b ≡ Stands c) where
+module _ (image : List ℕ) (edition : Edition) (b : ℕ) {c : Chunk} (s : standsAt image edition b ≡ Stands c) where
   stands-chunk : chunkBy b (chunkLine image b) ≡ c
-  stands-chunk = said-chunk image b (stands-said image b s)
+  stands-chunk = said-chunk image b (stands-said image edition b s)
 
   pub stands-block : c .block ≡ b
   stands-block = ap (λ (k : Chunk). k .block) (sym stands-chunk)
 
   pub stands-stood : Stood image c
   stands-stood =
-      let f = fitting-fits (blocksIn image) b (chunkLine image b) (said-told image b (stands-said image b s) .2) in
+      let f = fitting-fits (blocksIn image) b (chunkLine image b) (said-told image b (stands-said image edition b s) .2) in
       subst (λ (k : Chunk). Stood image k) stands-chunk
       (record { len-some = f .len-some; inside = f .inside; first-small = omega (arith, newline-small image b) })
 

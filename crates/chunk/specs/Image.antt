@@ -5,16 +5,17 @@
 --   blocksIn image       the number of blocks; 0 where the size is not right
 --   Reading              what a line says, and where its newline stands in its area
 --   gives, value, says   whether a reading has a field of a name, its value, and whether it has it with a value
---   headerLine image c   a file header's line: copy c stands in block c
---   chunkLine image b    the line of the chunk header in block b
---   footerLine image e   the footer's line in the last 128 bytes before block e
--- The last three are all that opening reads of the image.
+--   headerLine image edition c   a file header's line: copy c stands in block c
+--   chunkLine image b            the line of the chunk header in block b
+--   footerLine image edition e   the footer's line in the last 128 bytes before block e
+-- The last three are all that opening reads of the image; a sum is right in an edition.
 use Prim.Native.Nat.{ℕ, _*_, _-_, _/_}
 use mathlib.Core.Bool.{Bool, cond, _&&_}
 use mathlib.Core.List.{List}
 use lib.Dec.{eqb}
 use lib.ListN.{length, take}
 use Rattle.text.specs.Text.{bytesAt, within}
+use Rattle.fletcher.specs.declared.Edition.{Edition}
 use Rattle.line.specs.declared.Line.{Line}
 use Rattle.line.specs.declared.Line.the-variants.{At, Nothing}
 use Rattle.line.specs.Line.{lineOf}
@@ -46,26 +47,27 @@ abbrev pub plain : List ℕ → Line → Reading
 plain area Nothing = noReading
 plain area (At n newline) = record { fields = readOf (take n area); newline = newline }
 
--- "File headers and footers end with the field `fletcher`": nothing is read of a line whose sum is not right
-abbrev pub summed : List ℕ → Line → Reading
-summed area Nothing = noReading
-summed area (At n newline) = cond (rightSum (take n area)) (plain area (At n newline)) noReading
+-- "File headers and footers end with the field `fletcher`": nothing is read of a line whose sum is not right. 02: "opening takes an
+-- edition, [..] and every line in that image is judged by it"
+abbrev pub summed : Edition → List ℕ → Line → Reading
+summed edition area Nothing = noReading
+summed edition area (At n newline) = cond (rightSum edition (take n area)) (plain area (At n newline)) noReading
 
 abbrev pub plainLine : List ℕ → Reading
 plainLine area = plain area (lineOf area)
 
-abbrev pub summedLine : List ℕ → Reading
-summedLine area = summed area (lineOf area)
+abbrev pub summedLine : Edition → List ℕ → Reading
+summedLine edition area = summed edition area (lineOf area)
 
 -- "Areas: a file header's block, a chunk header's first 1,024 bytes, a footer's 128 bytes."
-unfoldable pub headerLine : List ℕ → ℕ → Reading
-headerLine image c = summedLine (bytesAt image (c * blockBytes) blockBytes)
+unfoldable pub headerLine : List ℕ → Edition → ℕ → Reading
+headerLine image edition c = summedLine edition (bytesAt image (c * blockBytes) blockBytes)
 
 unfoldable pub chunkLine : List ℕ → ℕ → Reading
 chunkLine image b = plainLine (bytesAt image (b * blockBytes) 1024)
 
-unfoldable pub footerLine : List ℕ → ℕ → Reading
-footerLine image e = summedLine (bytesAt image (e * blockBytes - 128) 128)
+unfoldable pub footerLine : List ℕ → Edition → ℕ → Reading
+footerLine image edition e = summedLine edition (bytesAt image (e * blockBytes - 128) 128)
 
 -- ## What a reading says of a name
 abbrev pub gives : Reading → List ℕ → Bool

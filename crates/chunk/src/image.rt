@@ -1,4 +1,5 @@
 // The image, its blocks, and the three kinds of line that opening reads of it.
+use fletcher::Edition;
 use line::Fields;
 use line::Line;
 ghost use Prim.Native.Nat.{_*_};
@@ -92,15 +93,15 @@ fn plain_line(area: &[u8]) -> Reading
     Reading { fields, newline }
 }
 
-// The same, nothing where the line's sum is not right.
-fn summed_line(area: &[u8]) -> Reading
-    ensures { λ r. ⌜ r ≡ summedLine (now (area .entry)) ⌝ }
+// The same, nothing where the line's sum is not right in the edition.
+fn summed_line(edition: Edition, area: &[u8]) -> Reading
+    ensures { λ r. ⌜ r ≡ summedLine edition (now (area .entry)) ⌝ }
 {
     let l = line::line_of(area);
     let Line::At { len, newline } = l else {
         return Reading::none();
     };
-    if line::right_sum(&area[..len]) {
+    if line::right_sum(edition, &area[..len]) {
         let fields = line::read_fields(&area[..len]);
         Reading { fields, newline }
     } else {
@@ -109,10 +110,10 @@ fn summed_line(area: &[u8]) -> Reading
 }
 
 // File header copy `copy`, in the block of that number.
-pub fn header_line(image: &[u8], copy: u32) -> Reading
-    ensures { λ r. ⌜ r ≡ headerLine (now (image .entry)) copy ⌝ }
+pub fn header_line(image: &[u8], edition: Edition, copy: u32) -> Reading
+    ensures { λ r. ⌜ r ≡ headerLine (now (image .entry)) edition copy ⌝ }
 {
-    summed_line(text::bytes_at(image, start_of(copy), 4096))
+    summed_line(edition, text::bytes_at(image, start_of(copy), 4096))
 }
 
 // The chunk header in block `b`.
@@ -123,12 +124,12 @@ pub fn chunk_line(image: &[u8], b: u32) -> Reading
 }
 
 // The footer in the last 128 bytes before block `e`.
-pub fn footer_line(image: &[u8], e: u32) -> Reading
-    ensures { λ r. ⌜ r ≡ footerLine (now (image .entry)) e ⌝ }
+pub fn footer_line(image: &[u8], edition: Edition, e: u32) -> Reading
+    ensures { λ r. ⌜ r ≡ footerLine (now (image .entry)) edition e ⌝ }
 {
     let end = start_of(e);
     if end < 128 {
-        return summed_line(text::bytes_at(image, 0, 128));
+        return summed_line(edition, text::bytes_at(image, 0, 128));
     }
-    summed_line(text::bytes_at(image, end - 128, 128))
+    summed_line(edition, text::bytes_at(image, end - 128, 128))
 }

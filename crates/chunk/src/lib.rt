@@ -1,6 +1,7 @@
 // The image, its lines, and when a chunk stands at a block.
 mod image;
 
+use fletcher::Edition;
 pub use image::Reading;
 pub use image::blocks_in;
 pub use image::chunk_line;
@@ -91,11 +92,11 @@ pub fn is_footer(c: Chunk, r: Reading) -> bool
 }
 
 // The chunk, if its footer stands where it ends.
-fn with_footer(image: &[u8], c: Chunk) -> Standing
+fn with_footer(image: &[u8], edition: Edition, c: Chunk) -> Standing
     requires { ⌜ c .block + c .len < 2 ^ 32 ⌝ }
-    ensures { λ x. ⌜ x ≡ footed (now (image .entry)) c ⌝ }
+    ensures { λ x. ⌜ x ≡ footed (now (image .entry)) edition c ⌝ }
 {
-    let r = footer_line(image, c.block + c.len);
+    let r = footer_line(image, edition, c.block + c.len);
     if is_footer(c, r) {
         Standing::Stands(c)
     } else {
@@ -126,14 +127,14 @@ pub fn said_at(image: &[u8], b: u64) -> Standing
 }
 
 // The chunk that stands at block `b`.
-pub fn stands_at(image: &[u8], b: u64) -> Standing
-    ensures { λ x. ⌜ x ≡ standsAt (now (image .entry)) b ⌝ }
+pub fn stands_at(image: &[u8], edition: Edition, b: u64) -> Standing
+    ensures { λ x. ⌜ x ≡ standsAt (now (image .entry)) edition b ⌝ }
 {
     let s = said_at(image, b);
     let Standing::Stands(c) = s else {
         return Standing::Nothing;
     };
-    with_footer(image, c)
+    with_footer(image, edition, c)
 }
 
 // The chunk that stands, if it has the id.

@@ -3,8 +3,9 @@ use Prim.Native.Nat.{ℕ}
 use mathlib.Core.List.{List}
 use Rattle.refusal.specs.Refusal.{Outcome}
 use Rattle.tree.specs.Examination.{Report}
+use Rattle.opening.specs.declared.View.{View}
 use Rattle.store.specs.Examining.{examineIn}
 use Rattle.map.specs.Map.{askedMap, asking}
 
-unfoldable pub examineOf : List ℕ → ℕ → ℕ → Outcome Report
-examineOf image map kind = asking (askedMap map kind) image (λ s id k. examineIn image s id k)
+unfoldable pub examineOf : List ℕ → View → ℕ → ℕ → Outcome Report
+examineOf image view map kind = asking (askedMap map kind) image view (λ s id k. examineIn image s id k)

@@ -16,6 +16,7 @@ use Rattle.tree.specs.ListLaws.{all-member}
 use Rattle.tree.specs.Examination.{mapExamine}
 use Rattle.tree.specs.Demand3.{Passes as PassesTree}
 use Rattle.tree.specs.Theorem.{examined, passed-answers, passed-entries}
+use Rattle.opening.specs.declared.View.{View}
 use Rattle.opening.specs.declared.Store.{Store}
 use Rattle.content.specs.Content.{Entry}
 use Rattle.store.specs.Store.{reader}
@@ -26,13 +27,13 @@ use Rattle.map.specs.Map.{askedMap, keyed, asking, lookupOf, indexOf, countOf}
 use Rattle.examine.specs.Examine.{examineOf}
 use Rattle.examine.specs.Demand3.{Map, SoundMap, Passes, Answers}
 
-module _ {image : List ℕ} {map kind : ℕ} (m : Map image map kind) where
+module _ {image : List ℕ} {view : View} {map kind : ℕ} (m : Map image view map kind) where
   abbrev read : ℕ → Outcome (Page Key Entry)
   read = reader image (m .store) (m .id) (m .keys)
 
   -- ## A call is what the tree says of the map's root
   asking-map : {A : Type 0} (ask : Store → ℕ → Kind → Outcome A)
-      → asking (askedMap map kind) image ask ≡ ask (m .store) (m .id) (m .keys)
+      → asking (askedMap map kind) image view ask ≡ ask (m .store) (m .id) (m .keys)
   unfolding asking
   asking-map ask = rw (m .asked, m .opens)
 
@@ -40,33 +41,33 @@ module _ {image : List ℕ} {map kind : ℕ} (m : Map image map kind) where
   in-map ask = rw (m .found)
 
   lookup-map : (key : List ℕ) → wellFormed (m .keys) key ≡ true
-      → lookupOf image map kind key ≡ mapLookup compareKeys read (keyOf (m .keys) key) (m .root)
+      → lookupOf image view map kind key ≡ mapLookup compareKeys read (keyOf (m .keys) key) (m .root)
   unfolding lookupOf asking keyed lookupIn
   lookup-map key w = rw (m .asked, w, m .opens) (in-map (mapLookup compareKeys read (keyOf (m .keys) key)))
 
-  index-map : (i : ℕ) → indexOf image map kind i ≡ mapIndex read i (m .root)
+  index-map : (i : ℕ) → indexOf image view map kind i ≡ mapIndex read i (m .root)
   unfolding indexOf indexIn
   index-map i = asking-map (λ s id k. indexIn image s id k i) ∙ in-map (mapIndex read i)
 
-  count-map : countOf image map kind ≡ mapCount read (m .root)
+  count-map : countOf image view map kind ≡ mapCount read (m .root)
   unfolding countOf countIn
   count-map = asking-map (λ s id k. countIn image s id k) ∙ in-map (mapCount read)
 
-  examine-map : examineOf image map kind ≡ mapExamine compareKeys read (m .root)
+  examine-map : examineOf image view map kind ≡ mapExamine compareKeys read (m .root)
   unfolding examineOf examineIn
   examine-map = asking-map (λ s id k. examineIn image s id k) ∙ in-map (mapExamine compareKeys read)
 
-  passes-map : Passes image map kind → PassesTree compareKeys read (m .root)
+  passes-map : Passes image view map kind → PassesTree compareKeys read (m .root)
   passes-map p = (p .0, sym examine-map ∙ p .1)
 
   -- ## Demand 3
-  pub passes-sound : Passes image map kind ↔ SoundMap m
+  pub passes-sound : Passes image view map kind ↔ SoundMap m
   passes-sound = (
     λ p. examined key-order read (m .root) .0 (passes-map p),
     λ s. let p = examined key-order read (m .root) .1 s in (p .0, examine-map ∙ p .1),
   )
 
-  passed-map : Passes image map kind → Answers m
+  passed-map : Passes image view map kind → Answers m
   passed-map p =
       let a = passed-answers key-order read (m .root) (passes-map p) in
       record {
@@ -80,5 +81,5 @@ module _ {image : List ℕ} {map kind : ℕ} (m : Map image map kind) where
         keys-there = λ k e i. all-member _ i (entries-key image (m .store) (m .id) (m .keys) (m .root));
       }
 
-  pub demand3 : (Passes image map kind ↔ SoundMap m) × (Passes image map kind → Answers m)
+  pub demand3 : (Passes image view map kind ↔ SoundMap m) × (Passes image view map kind → Answers m)
   demand3 = (passes-sound, passed-map)

@@ -8,6 +8,7 @@ use native.Mathlib.Omega.{arith}
 use Rattle.key.specs.Key.{Key}
 use Rattle.tree.specs.Page.{All}
 use Rattle.tree.specs.Walk.{Moved, yield, over, stop}
+use Rattle.opening.specs.declared.View.{View}
 use Rattle.content.specs.Content.{Entry, keyIn}
 use Rattle.cursor.specs.declared.Walk.{Walk}
 use Rattle.cursor.specs.declared.Yield.the-variants as yields
@@ -34,23 +35,23 @@ going-on w v e (stop r) h =
     let got : yields.Refused r ≡ yieldOf e = ap (λ (s : Stepped). s .got) h in
     absurd (true≢false cc)
 
-module _ {image : List ℕ} {map kind : ℕ} (m : Map image map kind) where
+module _ {image : List ℕ} {view : View} {map kind : ℕ} (m : Map image view map kind) where
   -- the call is the step in the open store, with the key read at its place
   step-map : (w : Walk) → w .last ≡ 0 → {s : Stepped} → stepIn image (m .store) (m .id) (m .keys) w ≡ s
-      → stepOf image map kind w ≡ stepBy image (m .keys) s
+      → stepOf image view map kind w ≡ stepBy image (m .keys) s
   step-map w going e =
-      sym (after-open image (m .id) (m .keys) w (m .opens) (sym e)
-      ∙ step-asked image map kind w (λ d. absurd (omega (arith, going, d))) (rw going) (m .asked))
+      sym (after-open image view (m .id) (m .keys) w (m .opens) (sym e)
+      ∙ step-asked image view map kind w (λ d. absurd (omega (arith, going, d))) (rw going) (m .asked))
 
   walks-map : (w : Walk) → w .last ≡ 0 → (es : List (Key × Entry)) → All (λ x. x .0 ≡ keyIn image (m .keys) (x .1 .key)) es
-      → Walks image (m .store) (m .id) (m .keys) w es → WalksOf image map kind w es
+      → Walks image (m .store) (m .id) (m .keys) w es → WalksOf image view map kind w es
   unfolding stepBy nextBy stepIn
   walks-map w going [] keys s =
-      (step-map w going s, sym (step-done image map kind (closed w doneNumber) refl))
+      (step-map w going s, sym (step-done image view map kind (closed w doneNumber) refl))
   walks-map w going (e ∷ es) keys (v, s, rest) =
       (v, step-map w going s ∙ rw (keys .0), walks-map v (going-on w v e _ s) es (keys .1) rest)
 
-  pub passed-walks : Passes image map kind → WalksOf image map kind fresh (entryList m)
+  pub passed-walks : Passes image view map kind → WalksOf image view map kind fresh (entryList m)
   unfolding fresh
   passed-walks p =
       walks-map fresh refl (entryList m) (entries-key image (m .store) (m .id) (m .keys) (m .root))

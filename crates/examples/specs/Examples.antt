@@ -1,16 +1,21 @@
--- Document 01's worked examples, "Proved examples": one statement over one list, about the definitions.
+-- Document 01's worked examples, "Proved examples": one statement over one list, about the definitions; and the sums of texts in
+-- both editions of request C-16.
 --
---   Answer      what a definition gives, of any sort
---   Example     what the definition gives, and what 01 says
---   examples    01's (a) to (j)
---   all-right   each gives what 01 says
+--   Answer           what a definition gives, of any sort
+--   Example          what the definition gives, and what 01 says
+--   examples         01's (a) to (j)
+--   all-right        each gives what 01 says
+--   editions         texts whose sums the editions take apart, and texts that sum the same in both
+--   editions-right   each gives what was computed elsewhere
 use Prim.Native.Nat.{ℕ}
 use mathlib.Core.Path.{_≡_, refl}
 use mathlib.Core.List.{List, [], _∷_, _++_}
 use mathlib.Core.Option.{Option, none, some}
+use lib.ListN.{replicate}
 use Rattle.order.specs.declared.Order.{Order}
 use Rattle.order.specs.declared.Order.the-variants.{Less}
 use Rattle.text.specs.Text.{span, every, same, split}
+use Rattle.fletcher.specs.declared.Edition.the-variants.{First, Second}
 use Rattle.fletcher.specs.Fletcher.{reduced, start, addWord, sums, fletcherOf}
 use Rattle.numeral.specs.declared.Numeral.{Numeral}
 use Rattle.numeral.specs.declared.Numeral.the-variants as numeral
@@ -96,13 +101,13 @@ example given due = record { given = given; due = due }
 pub examples : List Example
 examples =
     -- (a) `chunk:1,block:2,version:1` sums to aed9a4f6
-    example (numbers (fletcherOf footer ∷ [])) (numbers (0xaed9a4f6 ∷ [])) ∷
+    example (numbers (fletcherOf First footer ∷ [])) (numbers (0xaed9a4f6 ∷ [])) ∷
     -- (b) the documents' file header line prints 3044e6cc; the rule gives 1a2bd87b, so that copy isn't good; with that sum it is
-    example (numbers (fletcherOf headerText ∷ [])) (numbers (0x1a2bd87b ∷ [])) ∷
-    example (ofCopy (copyOf (headerLine (headerText ++ printed) 0))) refused ∷
-    example (ofCopy (copyOf (headerLine (headerText ++ summed) 0))) (numbers (2 ∷ 7 ∷ 7 ∷ [])) ∷
+    example (numbers (fletcherOf First headerText ∷ [])) (numbers (0x1a2bd87b ∷ [])) ∷
+    example (ofCopy (copyOf (headerLine (headerText ++ printed) First 0))) refused ∷
+    example (ofCopy (copyOf (headerLine (headerText ++ summed) First 0))) (numbers (2 ∷ 7 ∷ 7 ∷ [])) ∷
     -- (c) the empty text sums to ffffffff
-    example (numbers (fletcherOf [] ∷ [])) (numbers (0xffffffff ∷ [])) ∷
+    example (numbers (fletcherOf First [] ∷ [])) (numbers (0xffffffff ∷ [])) ∷
     -- (d) position 4000004f8c: chunk 1, offset 318, code 6, leaf, at most 256 bytes
     example (numbers (chunkOf position ∷ offsetOf position ∷ codeOf position ∷ typeOf position ∷ [])) (numbers (1 ∷ 318 ∷ 6 ∷ 0 ∷ [])) ∷
     example (ofBound (boundOf (codeOf position))) (numbers (256 ∷ [])) ∷
@@ -131,3 +136,26 @@ unfolding examples reduced start addWord sums fletcherOf trimmed lineOf has valu
     continued varFrom limited varAt boundOf folded checkOf keyOf compareKeys headerLine formatRight namesAll namesAny copyOf
 all-right =
     (refl, (refl, (refl, (refl, (refl, (refl, (refl, (refl, (refl, (refl, (refl, (refl, (refl, (refl, (refl, (refl, tt))))))))))))))))
+
+-- a text and its sum in the first edition and in the second
+abbrev inBoth : List ℕ → ℕ → ℕ → Example
+inBoth s first second = example (numbers (fletcherOf First s ∷ fletcherOf Second s ∷ [])) (numbers (first ∷ second ∷ []))
+
+pub editions : List Example
+editions =
+    -- "Under that rule the documents' footer text sums to 84d0d5f6."
+    inBoth footer 0xaed9a4f6 0x84d0d5f6 ∷
+    -- the documents' file header text: the 3044e6cc that they print is right in neither
+    inBoth headerText 0x1a2bd87b 0x29a70f7c ∷
+    example (ofCopy (copyOf (headerLine (headerText ++ printed) Second 0))) refused ∷
+    -- `chunk:1,block:2,version:1a`, of even length
+    inBoth (footer ++ (97 ∷ [])) 0x8531d657 0x8531d657 ∷ inBoth [] 0xffffffff 0xffffffff ∷
+    -- `a` and `abc`
+    inBoth (97 ∷ []) 0xffffffff 0x61006100 ∷ inBoth (97 ∷ 98 ∷ 99 ∷ []) 0x61626162 0x25c5c462 ∷
+    -- 360 words ff ff, then ff
+    inBoth (replicate 721 255) 0xffffffff 0xff00ff00 ∷ []
+
+pub editions-right : All Right editions
+unfolding editions reduced start addWord sums fletcherOf trimmed lineOf has valueIn noneTwice allFields fieldsOf readOf lastComma
+    rightSum numberOf slotOf fieldOf span every same split digitOf hexFrom shaped hexOf headerLine formatRight namesAll namesAny copyOf
+editions-right = (refl, (refl, (refl, (refl, (refl, (refl, (refl, (refl, tt))))))))

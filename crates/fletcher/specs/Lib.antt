@@ -1,4 +1,5 @@
 pub mod Fletcher
 pub mod Laws
+pub mod EditionLaws
 pub mod Plain
 pub mod PlainLaws

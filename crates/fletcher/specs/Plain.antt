@@ -1,7 +1,8 @@
 -- Sums that are reduced late, after request C-15 of document 02: "reduce once per 360 words and at a text's end".
 --
 --   added t w       both running sums after one word more, not reduced
---   plain t s       both running sums after the words of the text s, not reduced
+--   plain e t s     both running sums after the text s, not reduced
+--   wordsIn e s     how many words the text s has
 --   bothReduced t   both sums, reduced
 --   InRange x       x is 1 to 65535, as reducing leaves a sum
 --   Reduced t       both sums are in that range
@@ -10,6 +11,8 @@
 --   Within k t      neither sum is more than k words can make of reduced sums
 use Prim.Native.Nat.{ℕ, zero, suc, _+_, _*_, _^_, _≤_, _<_}
 use mathlib.Core.List.{List, [], _∷_}
+use Rattle.fletcher.specs.declared.Edition.{Edition}
+use Rattle.fletcher.specs.declared.Edition.the-variants.{First, Second}
 use Rattle.fletcher.specs.declared.Sums.{Sums}
 use Rattle.fletcher.specs.Fletcher.{reduced}
 
@@ -19,11 +22,26 @@ added t w =
     let first = t .first + w in
     record { first = first; second = t .second + first }
 
--- 01: "[..] as 16-bit words, high byte first. [..] an odd last byte: it is not counted."
-unfoldable pub plain : Sums → List ℕ → Sums
-plain t [] = t
-plain t (x ∷ []) = t
-plain t (high ∷ (low ∷ s)) = plain (added t (high * 256 + low)) s
+-- an odd last byte, as in the sums that are reduced after each word
+abbrev pub oddAdded : Edition → Sums → ℕ → Sums
+oddAdded First t x = t
+oddAdded Second t x = added t (x * 256)
+
+-- 01: "[..] as 16-bit words, high byte first."
+unfoldable pub plain : Edition → Sums → List ℕ → Sums
+plain e t [] = t
+plain e t (x ∷ []) = oddAdded e t x
+plain e t (high ∷ (low ∷ s)) = plain e (added t (high * 256 + low)) s
+
+-- 02: "an odd last byte is a word in edition 2 and none in edition 1"
+abbrev pub oddWords : Edition → ℕ
+oddWords First = 0
+oddWords Second = 1
+
+unfoldable pub wordsIn : Edition → List ℕ → ℕ
+wordsIn e [] = 0
+wordsIn e (x ∷ []) = oddWords e
+wordsIn e (high ∷ (low ∷ s)) = suc (wordsIn e s)
 
 -- 01: "Both [..] are taken modulo 65535, with 65535 written for 0."
 unfoldable pub bothReduced : Sums → Sums

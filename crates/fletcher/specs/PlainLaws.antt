@@ -2,7 +2,7 @@
 --
 --   plain-rule     reduced at its end, the sums of a text are the rule's
 --   within-360     from reduced sums both stay below 2^32 within 360 words
---   most-reached   361 words can take the second sum past it
+--   most-reached   361 words can take the second sum past it; odd-reached: 360 and an odd byte
 use Prim.Native.Nat.{ℕ, zero, suc, _+_, _*_, _-_, _%_, _≤_, _<_}
 use mathlib.Core.Path.{_≡_, refl, subst}
 use mathlib.Core.List.{List, [], _∷_}
@@ -12,10 +12,12 @@ use native.Mathlib.Omega.{arith}
 use borrow.Author.Tests.{eqb-true, eqb-false}
 use lib.Dec.{eqb}
 use lib.ListN.{length, getD, drop, replicate}
+use Rattle.fletcher.specs.declared.Edition.{Edition}
+use Rattle.fletcher.specs.declared.Edition.the-variants.{First, Second}
 use Rattle.fletcher.specs.declared.Sums.{Sums}
 use Rattle.fletcher.specs.Fletcher.{reduced, start, addWord, sums}
 use Rattle.fletcher.specs.Laws.{sums-more}
-use Rattle.fletcher.specs.Plain.{added, plain, bothReduced, InRange, Reduced, Fits, most, Within}
+use Rattle.fletcher.specs.Plain.{added, plain, wordsIn, bothReduced, InRange, Reduced, Fits, most, Within}
 
 -- ## Reducing
 
@@ -57,16 +59,17 @@ pub added-rule : (t : Sums) (w : ℕ) → bothReduced (added t w) ≡ addWord (b
 unfolding bothReduced added addWord
 added-rule t w = rw (reduced-add (t .first) w, reduced-sum)
 
-pub plain-rule : (t : Sums) (s : List ℕ) → bothReduced (plain t s) ≡ sums (bothReduced t) s
+pub plain-rule : (e : Edition) (t : Sums) (s : List ℕ) → bothReduced (plain e t s) ≡ sums e (bothReduced t) s
 unfolding plain sums
-plain-rule t [] = refl
-plain-rule t (x ∷ []) = refl
-plain-rule t (high ∷ (low ∷ s)) = rw (plain-rule (added t (high * 256 + low)) s, added-rule)
+plain-rule e t [] = refl
+plain-rule First t (x ∷ []) = refl
+plain-rule Second t (x ∷ []) = added-rule t (x * 256)
+plain-rule e t (high ∷ (low ∷ s)) = rw (plain-rule e (added t (high * 256 + low)) s, added-rule)
 
 -- the word at a place, and those after it
-pub added-more : (t : Sums) (s : List ℕ) (i : ℕ) → i + 1 < length s
-    → sums (bothReduced (added t (getD s i 0 * 256 + getD s (i + 1) 0))) (drop (i + 2) s) ≡ sums (bothReduced t) (drop i s)
-added-more t s i h = rw (added-rule, sums-more (bothReduced t) s i)
+pub added-more : (e : Edition) (t : Sums) (s : List ℕ) (i : ℕ) → i + 1 < length s
+    → sums e (bothReduced (added t (getD s i 0 * 256 + getD s (i + 1) 0))) (drop (i + 2) s) ≡ sums e (bothReduced t) (drop i s)
+added-more e t s i h = rw (added-rule, sums-more e (bothReduced t) s i)
 
 -- ## "from reduced sums both stay below 2^32 within 360 words"
 
@@ -88,19 +91,25 @@ most-le k (suc left) e = omega (arith, most-le (suc k) left (omega arith))
 pub within-fits : {k : ℕ} {t : Sums} → k ≤ 360 → Within k t → Fits t
 within-fits {k} l h = record { first = omega arith; second = omega (arith, most-le k (360 - k) (omega arith)) }
 
--- k words were added before the text s; 721 bytes have 360 words
-plain-fits : (k : ℕ) (t : Sums) (s : List ℕ) → ((i : ℕ) → getD s i 0 < 256) → 2 * k + length s ≤ 721 → Within k t → Fits (plain t s)
-unfolding plain
-plain-fits k t [] bytes l h = within-fits (omega arith) h
-plain-fits k t (x ∷ []) bytes l h = within-fits (omega arith) h
-plain-fits k t (high ∷ (low ∷ s)) bytes l h =
-    plain-fits (k + 1) _ s (λ i. bytes (suc (suc i))) (omega arith) (within-added _ (omega (arith, bytes 0, bytes 1)) h)
+-- k words were added before the text s
+plain-fits : (e : Edition) (k : ℕ) (t : Sums) (s : List ℕ) → ((i : ℕ) → getD s i 0 < 256) → k + wordsIn e s ≤ 360 → Within k t → Fits (plain e t s)
+unfolding plain wordsIn
+plain-fits e k t [] bytes l h = within-fits (omega arith) h
+plain-fits First k t (x ∷ []) bytes l h = within-fits (omega arith) h
+plain-fits Second k t (x ∷ []) bytes l h = within-fits (omega arith) (within-added _ (omega (arith, bytes 0)) h)
+plain-fits e k t (high ∷ (low ∷ s)) bytes l h =
+    plain-fits e (k + 1) _ s (λ i. bytes (suc (suc i))) (omega arith) (within-added _ (omega (arith, bytes 0, bytes 1)) h)
 
 -- of any bytes, at most 360 words
-pub within-360 : (t : Sums) (s : List ℕ) → ((i : ℕ) → getD s i 0 < 256) → length s ≤ 721 → Reduced t → Fits (plain t s)
-within-360 t s bytes l h = plain-fits 0 t s bytes (omega arith) (within-start t h)
+pub within-360 : (e : Edition) (t : Sums) (s : List ℕ) → ((i : ℕ) → getD s i 0 < 256) → wordsIn e s ≤ 360 → Reduced t → Fits (plain e t s)
+within-360 e t s bytes l h = plain-fits e 0 t s bytes (omega arith) (within-start t h)
 
--- 361 words ff ff take the second sum past 2^32, which is 4294967296: so 360 is the most that may be added before it is reduced
-pub most-reached : plain start (replicate 722 255) .second ≡ 4305846105
+-- 361 words ff ff take the second sum past 2^32, which is 4294967296: so 360 is the most that may be added before it is reduced.
+-- An odd last byte ff after 360 of them does so too: it is added to sums that are reduced.
+pub most-reached : plain First start (replicate 722 255) .second ≡ 4305846105
 unfolding plain start added
 most-reached = refl
+
+pub odd-reached : plain Second start (replicate 721 255) .second ≡ 4305845850
+unfolding plain start added
+odd-reached = refl

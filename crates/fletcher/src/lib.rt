@@ -1,4 +1,4 @@
-// The Fletcher sums of a text, 16-bit words with the high byte first.
+// The Fletcher sums of a text, 16-bit words with the high byte first, in two editions.
 ghost use Prim.Native.Nat.{_+_, _*_, _≤_, _<_};
 ghost use mathlib.Core.Path.{_≡_};
 ghost use lib.ListN.{length, getD, drop};
@@ -7,6 +7,13 @@ ghost use Rattle.fletcher.specs.Plain.{added, bothReduced, Reduced, Fits
 
 // Reduced sums stay below 2^32 while so many words are added; one more can take the second past it.
 const MOST_WORDS: usize = 360;
+
+// How an odd last byte counts: in the first edition not at all, in the second as the high half of a
+// word whose low half is 0.
+pub enum Edition {
+    First,
+    Second,
+}
 
 // Both running sums.
 pub struct Sums {
@@ -73,7 +80,7 @@ fn word_at(text: &[u8], i: usize) -> u16
 // The sums `t` after so many words more, those of `text` from the place `at` on; reduced once, at the end.
 fn add_words(t: Sums, text: &[u8], at: usize, words: usize) -> Sums
     requires { ⌜ Reduced t × (words ≤ 360) × (at + 2 * words ≤ length (now text)) ⌝ }
-    ensures { λ r. ⌜ Reduced r × (sums r (drop (at + 2 * words) (now (text .entry))) ≡ sums t (drop at (now (text .entry)))) ⌝ }
+    ensures { λ r. ⌜ Reduced r × ((e : Edition) → sums e r (drop (at + 2 * words) (now (text .entry))) ≡ sums e t (drop at (now (text .entry)))) ⌝ }
 {
     let mut t = t;
     let mut n = 0;
@@ -84,9 +91,24 @@ fn add_words(t: Sums, text: &[u8], at: usize, words: usize) -> Sums
     t.reduced()
 }
 
-// The sums of the words of `text`; an odd last byte is not counted.
-pub fn sum_words(text: &[u8]) -> Sums
-    ensures { λ r. ⌜ r ≡ sums start (now (text .entry)) ⌝ }
+// The sums `t`, which are reduced, after an odd last byte, if it stands at the place `at`. Added with
+// 360 words before it, it could take the second sum past 2^32.
+fn odd_byte(edition: Edition, t: Sums, text: &[u8], at: usize) -> Sums
+    requires { ⌜ length (now text) ≤ at + 1 ⌝ }
+    ensures { λ r. ⌜ r ≡ sums edition t (drop at (now (text .entry))) ⌝ }
+{
+    if text.len() <= at {
+        return t;
+    }
+    match edition {
+        Edition::First => t,
+        Edition::Second => t.word(text[at] as u16 * 256),
+    }
+}
+
+// The sums of `text`.
+pub fn sum_words(edition: Edition, text: &[u8]) -> Sums
+    ensures { λ r. ⌜ r ≡ sums edition start (now (text .entry)) ⌝ }
 {
     let mut t = Sums::new();
     let mut i = 0;
@@ -94,13 +116,14 @@ pub fn sum_words(text: &[u8]) -> Sums
         t = add_words(t, text, i, MOST_WORDS);
         i += 2 * MOST_WORDS;
     }
-    add_words(t, text, i, (text.len() - i) / 2)
+    let words = (text.len() - i) / 2;
+    odd_byte(edition, add_words(t, text, i, words), text, i + 2 * words)
 }
 
 // The value that the field `fletcher` has over `text`.
-pub fn sum_text(text: &[u8]) -> u64
-    ensures { λ r. ⌜ r ≡ fletcherOf (now (text .entry)) ⌝ }
+pub fn sum_text(edition: Edition, text: &[u8]) -> u64
+    ensures { λ r. ⌜ r ≡ fletcherOf edition (now (text .entry)) ⌝ }
 {
-    let t = sum_words(text);
+    let t = sum_words(edition, text);
     t.second as u64 * 65536 + t.first as u64
 }

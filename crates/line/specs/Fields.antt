@@ -4,7 +4,7 @@
 --   valueIn name fs      the value of the name in fs: none where no field has it
 --   noneTwice fs         no name occurs twice
 --   fieldsOf line        the fields of a line; none where the line breaks a rule
---   rightSum line        the last field is a right `fletcher`
+--   rightSum e line      the last field is a right `fletcher` in the edition e
 --   known                the names that the file's lines are asked for, in the order of their numbers
 --   readOf line          what a line says of each known name; nothing where the line breaks a rule
 use Prim.Native.Nat.{ℕ, zero, suc}
@@ -14,6 +14,7 @@ use mathlib.Core.Option.{Option, none, some}
 use lib.Dec.{eqb}
 use lib.ListN.{length, getD, take, drop, replicate}
 use Rattle.text.specs.Text.{same, split}
+use Rattle.fletcher.specs.declared.Edition.{Edition}
 use Rattle.fletcher.specs.Fletcher.{fletcherOf}
 use Rattle.line.specs.declared.read.Fields.{Fields}
 use Rattle.names.specs.Names.{comma}
@@ -101,7 +102,7 @@ lastComma zero s = none
 lastComma (suc n) s = cond (eqb (getD s n 0) comma) (some n) (lastComma n s)
 
 -- "File headers and footers end with the field `fletcher`. It covers the bytes before the comma in front of it"
-unfoldable pub rightSum : List ℕ → Bool
-rightSum line =
+unfoldable pub rightSum : Edition → List ℕ → Bool
+rightSum e line =
     onSome (lastComma (length line) line) false
-    (λ n. onSome (fieldOf (drop (suc n) line)) false (λ f. same nameFletcher (f .name) && eqb (f .value) (fletcherOf (take n line))))
+    (λ n. onSome (fieldOf (drop (suc n) line)) false (λ f. same nameFletcher (f .name) && eqb (f .value) (fletcherOf e (take n line))))

@@ -6,13 +6,14 @@
 --   put acc slot v        what is read so far, and the value of the name numbered slot, if there is one
 --   seen acc slot name parts   the name is given already; if it is not known, it is in the parts that follow
 --   finish acc parts      what a line says of which acc is read and the parts are left
---   endsRight line n      what follows the comma at n is a right `fletcher`
+--   endsRight e line n    what follows the comma at n is a right `fletcher` in the edition e
 use Prim.Native.Nat.{ℕ, suc}
 use mathlib.Core.Bool.{Bool, true, false, cond, _&&_}
 use mathlib.Core.List.{List, [], _∷_}
 use lib.Dec.{eqb, ltb}
 use lib.ListN.{getD, take, drop, set, replicate}
 use Rattle.text.specs.Text.{same}
+use Rattle.fletcher.specs.declared.Edition.{Edition}
 use Rattle.fletcher.specs.Fletcher.{fletcherOf}
 use Rattle.line.specs.declared.read.Fields.{Fields}
 use Rattle.names.specs.Names.{namedIn}
@@ -44,6 +45,6 @@ finish acc (p ∷ ps) =
     onSome (fieldOf p) noFields
     (λ f. cond (seen acc (slotOf (f .name)) (f .name) ps) noFields (finish (put acc (slotOf (f .name)) (f .value)) ps))
 
-unfoldable pub endsRight : List ℕ → ℕ → Bool
-endsRight line n =
-    onSome (fieldOf (drop (suc n) line)) false (λ f. same nameFletcher (f .name) && eqb (f .value) (fletcherOf (take n line)))
+unfoldable pub endsRight : Edition → List ℕ → ℕ → Bool
+endsRight e line n =
+    onSome (fieldOf (drop (suc n) line)) false (λ f. same nameFletcher (f .name) && eqb (f .value) (fletcherOf e (take n line)))

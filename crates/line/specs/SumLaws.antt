@@ -12,6 +12,7 @@ use lib.ListN.{length, getD, take, drop}
 use lib.Seq.{take-length}
 use Rattle.text.specs.Text.{span, every, isNot, same}
 use Rattle.text.specs.Laws.{every-span, every-on}
+use Rattle.fletcher.specs.declared.Edition.{Edition}
 use Rattle.fletcher.specs.Fletcher.{fletcherOf}
 use Rattle.line.specs.declared.field.Part.the-variants as part
 use Rattle.names.specs.Names.{comma, partFrom}
@@ -37,32 +38,32 @@ module _ (line : List ℕ) (n : ℕ) where
       let k : n - 1 + 1 ≡ n = omega arith in
       every-on (isNot comma) line (n - 1) (omega arith) (ap not (ne-eqb (getD line (n - 1) 0) comma f)) ∙ rw k e
 
-  pub right-at : lastComma (length line) line ≡ some n → rightSum line ≡ endsRight line n
+  pub right-at : (edition : Edition) → lastComma (length line) line ≡ some n → rightSum edition line ≡ endsRight edition line n
   unfolding rightSum endsRight
-  right-at e = rw e
+  right-at edition e = rw e
 
-pub right-none : (line : List ℕ) → lastComma 0 line ≡ lastComma (length line) line → rightSum line ≡ false
+pub right-none : (edition : Edition) (line : List ℕ) → lastComma 0 line ≡ lastComma (length line) line → rightSum edition line ≡ false
 unfolding rightSum lastComma
-right-none line e = rw (← e)
+right-none edition line e = rw (← e)
 
 -- ## The field after it
-module _ (line : List ℕ) (n : ℕ) (alone : every (isNot comma) (drop (n + 1) line) ≡ true) where
+module _ (edition : Edition) (line : List ℕ) (n : ℕ) (alone : every (isNot comma) (drop (n + 1) line) ≡ true) where
   last-part : partFrom line (n + 1) ≡ drop (n + 1) line
   last-part =
       let rest = drop (n + 1) line in
       let all = eqb-true (span (isNot comma) rest) (length rest) (sym (every-span (isNot comma) rest) ∙ alone) in
       rw (all, take-length rest)
 
-  pub ends-bad : part.Bad ≡ partAt line (n + 1) → endsRight line n ≡ false
+  pub ends-bad : part.Bad ≡ partAt line (n + 1) → endsRight edition line n ≡ false
   unfolding endsRight
   ends-bad e = rw (← add-one n, ← last-part, part-bad line (n + 1) e)
 
   module _ {colon value end : ℕ} (p : Placed line (n + 1) colon value end) where
-    pub ends-other : same nameFletcher (take (colon - (n + 1)) (drop (n + 1) line)) ≡ false → endsRight line n ≡ false
+    pub ends-other : same nameFletcher (take (colon - (n + 1)) (drop (n + 1) line)) ≡ false → endsRight edition line n ≡ false
     unfolding endsRight
     ends-other e = rw (← add-one n, ← last-part, p .field, e)
 
     pub ends-sum : same nameFletcher (take (colon - (n + 1)) (drop (n + 1) line)) ≡ true →
-        endsRight line n ≡ eqb value (fletcherOf (take n line))
+        endsRight edition line n ≡ eqb value (fletcherOf edition (take n line))
     unfolding endsRight
     ends-sum e = rw (← add-one n, ← last-part, p .field, e)

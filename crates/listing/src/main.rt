@@ -1,10 +1,11 @@
 // The listing: reads an image from standard input, examines map `forces`, kind 0, and lists it in
-// decimal; or prints only `refused N`. The image is opened once and walked once.
+// decimal; or prints only `refused N`. The image is opened once, in the first edition, and walked once.
 use cursor::Walk;
 use cursor::Yield;
 use key::Kind;
 use metadata::Id;
 use opening::Store;
+use opening::View;
 use refusal::Refusal;
 use soundness::Examined;
 use soundness::Report;
@@ -105,7 +106,7 @@ fn forces(image: &[u8], s: Store) {
 }
 
 fn listing(image: &[u8]) {
-    let o = viewing::open(image);
+    let o = viewing::open(image, View { edition: 1 });
     match o {
         Viewed::Is(s) => {
             forces(image, s);

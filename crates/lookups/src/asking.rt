@@ -3,6 +3,7 @@ use super::output;
 use key::Kind;
 use metadata::Located;
 use opening::Store;
+use opening::View;
 use position::Position;
 use refusal::Refusal;
 use viewing::Viewed;
@@ -65,8 +66,8 @@ fn question(line: &[u8], image: &[u8], s: Store) {
 }
 
 // The line that answers a question, in an image that is opened for it.
-pub fn answer(line: &[u8], image: &[u8]) {
-    match viewing::open(image) {
+pub fn answer(line: &[u8], image: &[u8], edition: u64) {
+    match viewing::open(image, View { edition }) {
         Viewed::Is(s) => question(line, image, s),
         Viewed::Refused(r) => output::refused(r),
     }

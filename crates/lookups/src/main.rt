@@ -9,6 +9,7 @@
 //     like NAME             an image begins as a copy of the base
 //     put PLACE HEX         bytes placed in the image
 //     cut BYTES             so many bytes of it are the image
+//     edition N             the edition in which it is opened from now on; 1 where an image begins
 //     open                  what the image opens to: `chunk C block B version V`
 //     map HEX               the id of the map with a name: `id N`
 //     root ID               the root of a map: `root POSITION`
@@ -29,7 +30,7 @@ const MOST_INPUT: usize = 1000000;
 fn ask(line: &[u8], area: &[u8], held: Held) {
     let size = held.size;
     if size <= area.len() {
-        asking::answer(line, &area[..size]);
+        asking::answer(line, &area[..size], held.edition);
     } else {
         output::unknown();
     }
@@ -55,12 +56,19 @@ fn take(line: &[u8], area: &mut [u8], base: &mut [u8], held: Held) -> Held {
     if script::is(line, b"cut") {
         return held.cut(script::number(line, 1, 10) as usize);
     }
+    if script::is(line, b"edition") {
+        return held.viewed(script::number(line, 1, 10));
+    }
     ask(line, area, held);
     held
 }
 
 fn take_all(input: &[u8], area: &mut [u8], base: &mut [u8]) {
-    let mut held = Held { size: 0, kept: 0 };
+    let mut held = Held {
+        size: 0,
+        kept: 0,
+        edition: 1,
+    };
     let mut at = 0;
     while at < input.len() {
         held = take(script::line(input, at), area, base, held);

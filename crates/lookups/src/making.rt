@@ -5,10 +5,12 @@ const MOST_BLOCKS: u64 = 140;
 
 pub const MOST_BYTES: usize = 573440;
 
-// The bytes of the image, and of the base.
+// The bytes of the image, and of the base; and the edition in which the image is opened, 1 where none
+// is named.
 pub struct Held {
     pub size: usize,
     pub kept: usize,
+    pub edition: u64,
 }
 
 impl Held {
@@ -18,9 +20,19 @@ impl Held {
             Held {
                 size,
                 kept: self.kept,
+                edition: self.edition,
             }
         } else {
             self
+        }
+    }
+
+    // The image in another edition.
+    pub fn viewed(self, edition: u64) -> Held {
+        Held {
+            size: self.size,
+            kept: self.kept,
+            edition,
         }
     }
 }
@@ -55,6 +67,7 @@ pub fn begin(line: &[u8], area: &mut [u8], held: Held) -> Held {
         return Held {
             size: 0,
             kept: held.kept,
+            edition: 1,
         };
     }
     let size = blocks as usize * 4096;
@@ -64,6 +77,7 @@ pub fn begin(line: &[u8], area: &mut [u8], held: Held) -> Held {
     Held {
         size,
         kept: held.kept,
+        edition: 1,
     }
 }
 
@@ -73,6 +87,7 @@ pub fn keep(area: &[u8], base: &mut [u8], held: Held) -> Held {
     Held {
         size: held.size,
         kept: held.size,
+        edition: held.edition,
     }
 }
 
@@ -82,6 +97,7 @@ pub fn like(area: &mut [u8], base: &[u8], held: Held) -> Held {
     Held {
         size: held.kept,
         kept: held.kept,
+        edition: 1,
     }
 }
 

@@ -18,6 +18,7 @@ use Rattle.key.specs.declared.Kind.{Kind}
 use Rattle.key.specs.declared.Kind.the-variants.{Number, Text}
 use Rattle.key.specs.Key.{Key, number, text, keyOf, wellFormed}
 use Rattle.tree.specs.Page.{branch}
+use Rattle.opening.specs.declared.View.{View}
 use Rattle.opening.specs.declared.Store.{Store}
 use Rattle.content.specs.Content.{Entry, keyIn}
 use Rattle.store.specs.declared.Fetched.{Fetched}
@@ -56,31 +57,31 @@ wellNamed name = within 1 1000 (length name) && every isPrintable name
 
 -- ## The calls
 -- arguments, then opening, then the map
-unfoldable pub asking : {A : Type 0} → Outcome (ℕ × Kind) → List ℕ → (Store → ℕ → Kind → Outcome A) → Outcome A
-asking m image ask = bind m (λ x. bind (openedStore image) (λ s. ask s (x .0) (x .1)))
+unfoldable pub asking : {A : Type 0} → Outcome (ℕ × Kind) → List ℕ → View → (Store → ℕ → Kind → Outcome A) → Outcome A
+asking m image view ask = bind m (λ x. bind (openedStore image view) (λ s. ask s (x .0) (x .1)))
 
 -- "copy area smaller than the value"
 abbrev pub fitting : ℕ → Option Entry → Outcome (Option Entry)
 fitting room none = ok none
 fitting room (some e) = branch (leb (e .value .len) room) (ok (some e)) (refuse areaTooSmall)
 
-module _ (image : List ℕ) (map kind : ℕ) where
+module _ (image : List ℕ) (view : View) (map kind : ℕ) where
   unfoldable pub lookupOf : List ℕ → Outcome (Option Entry)
-  lookupOf key = asking (bind (askedMap map kind) (keyed key)) image (λ s id k. lookupIn image s id k (keyOf k key))
+  lookupOf key = asking (bind (askedMap map kind) (keyed key)) image view (λ s id k. lookupIn image s id k (keyOf k key))
 
   unfoldable pub indexOf : ℕ → Outcome (Key × Entry)
-  indexOf i = asking (askedMap map kind) image (λ s id k. indexIn image s id k i)
+  indexOf i = asking (askedMap map kind) image view (λ s id k. indexIn image s id k i)
 
   unfoldable pub countOf : Outcome ℕ
-  countOf = asking (askedMap map kind) image (λ s id k. countIn image s id k)
+  countOf = asking (askedMap map kind) image view (λ s id k. countIn image s id k)
 
   -- "Copy is a lookup that also writes the value."
   unfoldable pub copyOf : List ℕ → ℕ → Outcome (Option Entry)
   copyOf key room = bind (lookupOf key) (fitting room)
 
 -- "One call finds a map's id by name"
-unfoldable pub namedOf : List ℕ → List ℕ → Outcome ℕ
-namedOf image name = branch (wellNamed name) (bind (openedStore image) (λ s. mapId image s name)) (refuse badArgument)
+unfoldable pub namedOf : List ℕ → View → List ℕ → Outcome ℕ
+namedOf image view name = branch (wellNamed name) (bind (openedStore image view) (λ s. mapId image s name)) (refuse badArgument)
 
 -- ## What the code hands back
 abbrev pub askedSaid : Target → Outcome (ℕ × Kind)

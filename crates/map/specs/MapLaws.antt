@@ -25,6 +25,7 @@ use Rattle.text.specs.Text.{within, every, isPrintable}
 use Rattle.key.specs.declared.Kind.{Kind}
 use Rattle.key.specs.declared.Kind.the-variants.{Number, Text}
 use Rattle.key.specs.Key.{Key, keyOf, wellFormed}
+use Rattle.opening.specs.declared.View.{View}
 use Rattle.opening.specs.declared.Store.{Store}
 use Rattle.item.specs.Item.{Spot}
 use Rattle.content.specs.Content.{Entry, keyIn}
@@ -67,17 +68,17 @@ module _ (map : ℕ) where
   asked-number e other h = rw (e, le-leb 1 map (omega arith), le-leb map 0x7fffffff h)
 
 -- ## Arguments, then opening, then the map
-module _ {A : Type 0} {o : Outcome (ℕ × Kind)} (image : List ℕ) (ask : Store → ℕ → Kind → Outcome A) where
-  pub asking-bad : {r : Refusal} → o ≡ refuse r → asking o image ask ≡ refuse r
+module _ {A : Type 0} {o : Outcome (ℕ × Kind)} (image : List ℕ) (view : View) (ask : Store → ℕ → Kind → Outcome A) where
+  pub asking-bad : {r : Refusal} → o ≡ refuse r → asking o image view ask ≡ refuse r
   unfolding asking
   asking-bad e = rw e
 
   module _ {x : ℕ × Kind} (e : o ≡ ok x) where
-    pub asking-shut : {r : Refusal} → openedStore image ≡ refuse r → asking o image ask ≡ refuse r
+    pub asking-shut : {r : Refusal} → openedStore image view ≡ refuse r → asking o image view ask ≡ refuse r
     unfolding asking
     asking-shut f = rw (e, f)
 
-    pub asking-open : {s : Store} → openedStore image ≡ ok s → asking o image ask ≡ ask s (x .0) (x .1)
+    pub asking-open : {s : Store} → openedStore image view ≡ ok s → asking o image view ask ≡ ask s (x .0) (x .1)
     unfolding asking
     asking-open f = rw (e, f)
 
@@ -91,13 +92,13 @@ module _ (key : List ℕ) (id : ℕ) (kind : Kind) where
   unfolding keyed
   keyed-well e = rw e
 
-module _ (image : List ℕ) (map kind : ℕ) (key : List ℕ) where
-  pub lookup-bad : {r : Refusal} → askedMap map kind ≡ refuse r → lookupOf image map kind key ≡ refuse r
+module _ (image : List ℕ) (view : View) (map kind : ℕ) (key : List ℕ) where
+  pub lookup-bad : {r : Refusal} → askedMap map kind ≡ refuse r → lookupOf image view map kind key ≡ refuse r
   unfolding lookupOf
-  lookup-bad e = asking-bad image _ (rw e)
+  lookup-bad e = asking-bad image view _ (rw e)
 
   pub lookup-asked : {id : ℕ} {k : Kind} → askedMap map kind ≡ ok (id, k)
-      → asking (keyed key (id, k)) image (λ s i l. lookupIn image s i l (keyOf l key)) ≡ lookupOf image map kind key
+      → asking (keyed key (id, k)) image view (λ s i l. lookupIn image s i l (keyOf l key)) ≡ lookupOf image view map kind key
   unfolding lookupOf
   lookup-asked e = rw e
 
@@ -123,17 +124,17 @@ module _ (name : List ℕ) where
       let few = and-eq-true-iff (leb 1 (length name)) (leb (length name) 1000) .0 sized .1 in
       le-ltb 1000 (length name) (leb-true (length name) 1000 few)
 
-  module _ (image : List ℕ) where
-    pub named-bad : wellNamed name ≡ false → namedOf image name ≡ refuse badArgument
+  module _ (image : List ℕ) (view : View) where
+    pub named-bad : wellNamed name ≡ false → namedOf image view name ≡ refuse badArgument
     unfolding namedOf
     named-bad e = rw e
 
     module _ (well : wellNamed name ≡ true) where
-      pub named-shut : {r : Refusal} → openedStore image ≡ refuse r → namedOf image name ≡ refuse r
+      pub named-shut : {r : Refusal} → openedStore image view ≡ refuse r → namedOf image view name ≡ refuse r
       unfolding namedOf
       named-shut f = rw (well, f)
 
-      pub named-open : {s : Store} → openedStore image ≡ ok s → namedMap image s name ≡ namedOf image name
+      pub named-open : {s : Store} → openedStore image view ≡ ok s → namedMap image s name ≡ namedOf image view name
       unfolding namedOf namedMap
       named-open f = rw (named-room well, well, f)
 
@@ -145,9 +146,9 @@ module _ (map kind : ℕ) (t : Target) (e : askedSaid t ≡ askedMap map kind) w
   pub asked-told : {id : ℕ} {k : Kind} → t ≡ target.Map id k → askedMap map kind ≡ ok (id, k)
   asked-told f = sym e ∙ ap askedSaid f
 
-pub asking-told : {A : Type 0} (image : List ℕ) (ask : Store → ℕ → Kind → Outcome A) {o : Outcome (ℕ × Kind)} {x : ℕ × Kind} → o ≡ ok x
-    → asking (ok x) image ask ≡ asking o image ask
-asking-told image ask e = ap (λ o. asking o image ask) (sym e)
+pub asking-told : {A : Type 0} (image : List ℕ) (view : View) (ask : Store → ℕ → Kind → Outcome A) {o : Outcome (ℕ × Kind)} {x : ℕ × Kind} → o ≡ ok x
+    → asking (ok x) image view ask ≡ asking o image view ask
+asking-told image view ask e = ap (λ o. asking o image view ask) (sym e)
 
 -- ## Entries
 module _ (image : List ℕ) (kind : Kind) (key size at len : ℕ) where
@@ -182,11 +183,11 @@ put-more area s i h k =
     ∙ sym (append-snoc (take i s) (getD s i 0) (drop (suc i) area)))
 
 -- a value that was looked up lies inside the image
-asking-inside : (image : List ℕ) (o : Outcome (ℕ × Kind)) (k : Kind → Key) (e : Entry)
-    → asking o image (λ s i l. lookupIn image s i l (k l)) ≡ ok (some e) → e .value .at + e .value .len ≤ length image
+asking-inside : (image : List ℕ) (view : View) (o : Outcome (ℕ × Kind)) (k : Kind → Key) (e : Entry)
+    → asking o image view (λ s i l. lookupIn image s i l (k l)) ≡ ok (some e) → e .value .at + e .value .len ≤ length image
 unfolding asking
-asking-inside image (refuse r) k e h = refuse-ok r (some e) h
-asking-inside image (ok x) k e h = go (openedStore image) h
+asking-inside image view (refuse r) k e h = refuse-ok r (some e) h
+asking-inside image view (ok x) k e h = go (openedStore image view) h
   where
     go : (o : Outcome Store) → bind o (λ s. lookupIn image s (x .0) (x .1) (k (x .1))) ≡ ok (some e)
         → e .value .at + e .value .len ≤ length image
@@ -210,10 +211,10 @@ looked (refuse r) v = absurd (true≢false cc)
 looked (ok none) v = absurd (true≢false cc)
 looked (ok (some e)) v = record { entry = e; found = refl; place = ap placeOf v }
 
-module _ (image : List ℕ) (map kind : ℕ) (key : List ℕ) (room : ℕ) where
-  module _ {v : Value} (e : v ≡ valueOf (lookupOf image map kind key)) {at len : ℕ} (f : v ≡ value.At at len) where
-    found : Looked (lookupOf image map kind key) at len
-    found = looked (lookupOf image map kind key) (sym e ∙ f)
+module _ (image : List ℕ) (view : View) (map kind : ℕ) (key : List ℕ) (room : ℕ) where
+  module _ {v : Value} (e : v ≡ valueOf (lookupOf image view map kind key)) {at len : ℕ} (f : v ≡ value.At at len) where
+    found : Looked (lookupOf image view map kind key) at len
+    found = looked (lookupOf image view map kind key) (sym e ∙ f)
 
     pub copy-inside : at + len ≤ length image
     unfolding lookupOf
@@ -221,31 +222,31 @@ module _ (image : List ℕ) (map kind : ℕ) (key : List ℕ) (room : ℕ) where
         let x = found .entry in
         let a : x .value .at ≡ at = ap (λ (s : Spot). s .at) (found .place) in
         let l : x .value .len ≡ len = ap (λ (s : Spot). s .len) (found .place) in
-        omega (arith, a, l, asking-inside image (bind (askedMap map kind) (keyed key)) (λ k. keyOf k key) x (found .found))
+        omega (arith, a, l, asking-inside image view (bind (askedMap map kind) (keyed key)) (λ k. keyOf k key) x (found .found))
 
     module _ (small : room < len) where
-      copy-small : copyOf image map kind key room ≡ refuse areaTooSmall
+      copy-small : copyOf image view map kind key room ≡ refuse areaTooSmall
       unfolding copyOf
       copy-small = rw (found .found, found .place, lt-leb len room small)
 
-      pub copy-refuses : {r : Refusal} → r ≡ areaTooSmall → value.Refused r ≡ valueOf (copyOf image map kind key room)
+      pub copy-refuses : {r : Refusal} → r ≡ areaTooSmall → value.Refused r ≡ valueOf (copyOf image view map kind key room)
       unfolding valueOf
       copy-refuses i = rw (copy-small, i)
 
-      pub copy-refused : (area : List ℕ) → area ≡ areaAfter image (copyOf image map kind key room) area
+      pub copy-refused : (area : List ℕ) → area ≡ areaAfter image (copyOf image view map kind key room) area
       unfolding areaAfter
       copy-refused area = rw copy-small
 
     module _ (fits : len ≤ room) where
-      copy-fits : copyOf image map kind key room ≡ ok (some (found .entry))
+      copy-fits : copyOf image view map kind key room ≡ ok (some (found .entry))
       unfolding copyOf
       copy-fits = rw (found .found, found .place, le-leb len room fits)
 
-      pub copy-answers : value.At at len ≡ valueOf (copyOf image map kind key room)
+      pub copy-answers : value.At at len ≡ valueOf (copyOf image view map kind key room)
       unfolding valueOf
       copy-answers = rw (copy-fits, found .place)
 
-      pub copy-written : (area : List ℕ) → take len (drop at image) ++ drop len area ≡ areaAfter image (copyOf image map kind key room) area
+      pub copy-written : (area : List ℕ) → take len (drop at image) ++ drop len area ≡ areaAfter image (copyOf image view map kind key room) area
       unfolding areaAfter
       copy-written area = rw (copy-fits, found .place)
 
@@ -261,17 +262,17 @@ module _ (image : List ℕ) (map kind : ℕ) (key : List ℕ) (room : ℕ) where
   copy-same (ok none) n = refl
   copy-same (ok (some e)) n = absurd n
 
-  module _ {v w : Value} (e : v ≡ valueOf (lookupOf image map kind key)) (f : v ≡ w) (n : NoValue w) where
-    copy-lookup : copyOf image map kind key room ≡ lookupOf image map kind key
+  module _ {v w : Value} (e : v ≡ valueOf (lookupOf image view map kind key)) (f : v ≡ w) (n : NoValue w) where
+    copy-lookup : copyOf image view map kind key room ≡ lookupOf image view map kind key
     unfolding copyOf
-    copy-lookup = copy-same (lookupOf image map kind key) (subst NoValue (sym f ∙ e) n)
+    copy-lookup = copy-same (lookupOf image view map kind key) (subst NoValue (sym f ∙ e) n)
 
-    pub copy-none : w ≡ valueOf (copyOf image map kind key room)
+    pub copy-none : w ≡ valueOf (copyOf image view map kind key room)
     copy-none = sym f ∙ e ∙ ap valueOf (sym copy-lookup)
 
-    pub copy-kept : (area : List ℕ) → area ≡ areaAfter image (copyOf image map kind key room) area
+    pub copy-kept : (area : List ℕ) → area ≡ areaAfter image (copyOf image view map kind key room) area
     unfolding areaAfter valueOf
-    copy-kept area = go (lookupOf image map kind key) (subst NoValue (sym f ∙ e) n) ∙ ap (λ o. areaAfter image o area) (sym copy-lookup)
+    copy-kept area = go (lookupOf image view map kind key) (subst NoValue (sym f ∙ e) n) ∙ ap (λ o. areaAfter image o area) (sym copy-lookup)
       where
         go : (o : Outcome (Option Entry)) → NoValue (valueOf o) → area ≡ areaAfter image o area
         go (refuse r) m = refl

@@ -1,6 +1,7 @@
 // Copy: a lookup that also writes the value, at the start of an area that the caller lends.
 use super::lookup;
 use metadata::Value;
+use opening::View;
 use refusal::Refusal;
 ghost use Prim.Native.Nat.{_+_, _≤_};
 ghost use mathlib.Core.Path.{_≡_};
@@ -23,11 +24,11 @@ fn put(area: &mut [u8], image: &[u8], at: usize, len: usize)
 
 // The value of `key`, which is also written to the area's start. On a refusal and on Absent the area
 // keeps its bytes.
-pub fn copy(image: &[u8], map: u64, kind: u64, key: &[u8], area: &mut [u8]) -> Value
-    ensures answer { λ r. ⌜ r ≡ valueOf (copyOf (now (image .entry)) map kind (now (key .entry)) (length (now (area .entry)))) ⌝ }
-    ensures area { λ _. ⌜ now (area .exit) ≡ areaAfter (now (image .entry)) (copyOf (now (image .entry)) map kind (now (key .entry)) (length (now (area .entry)))) (now (area .entry)) ⌝ }
+pub fn copy(image: &[u8], view: View, map: u64, kind: u64, key: &[u8], area: &mut [u8]) -> Value
+    ensures answer { λ r. ⌜ r ≡ valueOf (copyOf (now (image .entry)) view map kind (now (key .entry)) (length (now (area .entry)))) ⌝ }
+    ensures area { λ _. ⌜ now (area .exit) ≡ areaAfter (now (image .entry)) (copyOf (now (image .entry)) view map kind (now (key .entry)) (length (now (area .entry)))) (now (area .entry)) ⌝ }
 {
-    let v = lookup(image, map, kind, key);
+    let v = lookup(image, view, map, kind, key);
     match v {
         Value::Refused(r) => Value::Refused(r),
         Value::Absent => Value::Absent,

@@ -2,6 +2,7 @@
 use super::Target;
 use super::asked;
 use key::Kind;
+use opening::View;
 use refusal::Refusal;
 use store::Fetched;
 use viewing::Viewed;
@@ -53,10 +54,10 @@ fn item_by(image: &[u8], kind: Kind, f: Fetched) -> Item
 }
 
 // The entry numbered `index` of a map that may be asked for.
-fn index_in(image: &[u8], id: u32, kind: Kind, index: u64) -> Item
-    ensures { λ r. ⌜ r ≡ itemOf (asking (ok (id, kind)) (now (image .entry)) (λ s i k. indexIn (now (image .entry)) s i k index)) ⌝ }
+fn index_in(image: &[u8], view: View, id: u32, kind: Kind, index: u64) -> Item
+    ensures { λ r. ⌜ r ≡ itemOf (asking (ok (id, kind)) (now (image .entry)) view (λ s i k. indexIn (now (image .entry)) s i k index)) ⌝ }
 {
-    let o = viewing::open(image);
+    let o = viewing::open(image, view);
     match o {
         Viewed::Refused(r) => Item::Refused(r),
         Viewed::Is(s) => item_by(image, kind, store::index(image, s, id, kind, index)),
@@ -64,12 +65,12 @@ fn index_in(image: &[u8], id: u32, kind: Kind, index: u64) -> Item
 }
 
 // The entry numbered `index`, from 0.
-pub fn index(image: &[u8], map: u64, kind: u64, index: u64) -> Item
-    ensures { λ r. ⌜ r ≡ itemOf (indexOf (now (image .entry)) map kind index) ⌝ }
+pub fn index(image: &[u8], view: View, map: u64, kind: u64, index: u64) -> Item
+    ensures { λ r. ⌜ r ≡ itemOf (indexOf (now (image .entry)) view map kind index) ⌝ }
 {
     let a = asked(map, kind);
     match a {
         Target::Refused(r) => Item::Refused(r),
-        Target::Map { id, kind: k } => index_in(image, id, k, index),
+        Target::Map { id, kind: k } => index_in(image, view, id, k, index),
     }
 }

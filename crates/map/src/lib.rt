@@ -10,6 +10,7 @@ pub use entry::item_at;
 use key::Kind;
 use metadata::Id;
 use metadata::Value;
+use opening::View;
 use refusal::Refusal;
 use store::Counted;
 use viewing::Viewed;
@@ -56,13 +57,13 @@ pub fn asked(map: u64, kind: u64) -> Target
 }
 
 // A lookup in a map that may be asked for.
-fn lookup_in(image: &[u8], id: u32, kind: Kind, key: &[u8]) -> Value
-    ensures { λ r. ⌜ r ≡ valueOf (asking (keyed (now (key .entry)) (id, kind)) (now (image .entry)) (λ s i k. lookupIn (now (image .entry)) s i k (keyOf k (now (key .entry))))) ⌝ }
+fn lookup_in(image: &[u8], view: View, id: u32, kind: Kind, key: &[u8]) -> Value
+    ensures { λ r. ⌜ r ≡ valueOf (asking (keyed (now (key .entry)) (id, kind)) (now (image .entry)) view (λ s i k. lookupIn (now (image .entry)) s i k (keyOf k (now (key .entry))))) ⌝ }
 {
     if key::well_formed(kind, key) {} else {
         return Value::Refused(Refusal::new(Refusal::ARGUMENT));
     }
-    let o = viewing::open(image);
+    let o = viewing::open(image, view);
     match o {
         Viewed::Refused(r) => Value::Refused(r),
         Viewed::Is(s) => store::lookup(image, s, id, kind, key),
@@ -70,21 +71,21 @@ fn lookup_in(image: &[u8], id: u32, kind: Kind, key: &[u8]) -> Value
 }
 
 // The value of `key`, by its place in the image and its length.
-pub fn lookup(image: &[u8], map: u64, kind: u64, key: &[u8]) -> Value
-    ensures { λ r. ⌜ r ≡ valueOf (lookupOf (now (image .entry)) map kind (now (key .entry))) ⌝ }
+pub fn lookup(image: &[u8], view: View, map: u64, kind: u64, key: &[u8]) -> Value
+    ensures { λ r. ⌜ r ≡ valueOf (lookupOf (now (image .entry)) view map kind (now (key .entry))) ⌝ }
 {
     let a = asked(map, kind);
     match a {
         Target::Refused(r) => Value::Refused(r),
-        Target::Map { id, kind: k } => lookup_in(image, id, k, key),
+        Target::Map { id, kind: k } => lookup_in(image, view, id, k, key),
     }
 }
 
 // How many entries a map has that may be asked for.
-fn count_in(image: &[u8], id: u32, kind: Kind) -> Counted
-    ensures { λ r. ⌜ r ≡ countedOf (asking (ok (id, kind)) (now (image .entry)) (λ s i k. countIn (now (image .entry)) s i k)) ⌝ }
+fn count_in(image: &[u8], view: View, id: u32, kind: Kind) -> Counted
+    ensures { λ r. ⌜ r ≡ countedOf (asking (ok (id, kind)) (now (image .entry)) view (λ s i k. countIn (now (image .entry)) s i k)) ⌝ }
 {
-    let o = viewing::open(image);
+    let o = viewing::open(image, view);
     match o {
         Viewed::Refused(r) => Counted::Refused(r),
         Viewed::Is(s) => store::count(image, s, id, kind),
@@ -92,13 +93,13 @@ fn count_in(image: &[u8], id: u32, kind: Kind) -> Counted
 }
 
 // How many entries the map has, by its root.
-pub fn count(image: &[u8], map: u64, kind: u64) -> Counted
-    ensures { λ r. ⌜ r ≡ countedOf (countOf (now (image .entry)) map kind) ⌝ }
+pub fn count(image: &[u8], view: View, map: u64, kind: u64) -> Counted
+    ensures { λ r. ⌜ r ≡ countedOf (countOf (now (image .entry)) view map kind) ⌝ }
 {
     let a = asked(map, kind);
     match a {
         Target::Refused(r) => Counted::Refused(r),
-        Target::Map { id, kind: k } => count_in(image, id, k),
+        Target::Map { id, kind: k } => count_in(image, view, id, k),
     }
 }
 
@@ -116,13 +117,13 @@ fn well_named(name: &[u8]) -> bool
 }
 
 // The id of the map that has a name.
-pub fn named(image: &[u8], name: &[u8]) -> Id
-    ensures { λ r. ⌜ idSaid r ≡ namedOf (now (image .entry)) (now (name .entry)) ⌝ }
+pub fn named(image: &[u8], view: View, name: &[u8]) -> Id
+    ensures { λ r. ⌜ idSaid r ≡ namedOf (now (image .entry)) view (now (name .entry)) ⌝ }
 {
     if well_named(name) {} else {
         return Id::Refused(Refusal::new(Refusal::ARGUMENT));
     }
-    let o = viewing::open(image);
+    let o = viewing::open(image, view);
     match o {
         Viewed::Refused(r) => Id::Refused(r),
         Viewed::Is(s) => store::map_id(image, s, name),

@@ -1,11 +1,11 @@
 -- What the metadata's answers say, after document 01, "Where a chunk is" and "Asking".
 --
 --   valueBytes image spot   the bytes of the value at a spot
---   standingBy image n v    the chunk n that stands where the metadata value at v says, if it does
+--   standingBy image edition n v    the chunk n that stands where the metadata value at v says, if it does
 --   idOf, rootOf            an id and a root by their hex digits
 --   namedId, namedRoot      the same by the value that the metadata has for a key, or by none
 --   needOf f                the questions that a lookup's answer took, 0 for a refusal
---   locationBy image n f    where chunk n stands by the answer of its lookup, with the questions that the lookup took
+--   locationBy image edition n f    where chunk n stands by the answer of its lookup, with the questions that the lookup took
 --   locatedBy, valueBy, idBy, rootBy    the answers by a chunk's location, or by what a lookup answered
 --   placeSaid, idSaid, rootSaid  the answers of the code as outcomes
 use Prim.Native.Nat.{ℕ}
@@ -17,6 +17,7 @@ use Rattle.text.specs.Text.{bytesAt, within}
 use Rattle.numeral.specs.declared.hex.Number.{Number}
 use Rattle.numeral.specs.declared.hex.Number.the-variants as number
 use Rattle.numeral.specs.Hex.{hexOf}
+use Rattle.fletcher.specs.declared.Edition.{Edition}
 use Rattle.line.specs.declared.read.Fields.{Fields}
 use Rattle.line.specs.Fields.{nameBlock, readOf}
 use Rattle.tree.specs.Page.{branch}
@@ -50,11 +51,11 @@ abbrev pub placeOf : Chunk → Place
 placeOf c = record { block = c .block; len = c .len; first = c .first }
 
 -- "the value's bytes are a line in the sense above, without the newline; its `block` says where chunk N must stand"
-abbrev pub standsBy : List ℕ → ℕ → Fields → Standing
-standsBy image n f = cond (givenOf f nameBlock) (kept (hasId n) (standsAt image (valueOf f nameBlock))) Nothing
+abbrev pub standsBy : List ℕ → Edition → ℕ → Fields → Standing
+standsBy image edition n f = cond (givenOf f nameBlock) (kept (hasId n) (standsAt image edition (valueOf f nameBlock))) Nothing
 
-unfoldable pub standingBy : List ℕ → ℕ → Spot → Standing
-standingBy image n v = standsBy image n (readOf (valueBytes image v))
+unfoldable pub standingBy : List ℕ → Edition → ℕ → Spot → Standing
+standingBy image edition n v = standsBy image edition n (readOf (valueBytes image v))
 
 -- "5: [..] unusable entry, or chunk not standing there"
 abbrev pub placedAt : Standing → Outcome Place
@@ -102,10 +103,11 @@ locationOf need (ok l) = location.At l need
 locationOf need (refuse r) = location.Refused r
 
 -- "5: no entry, [..]"; "A refusal of such a lookup is handed up unchanged."
-unfoldable pub locationBy : List ℕ → ℕ → Answer → Location
-locationBy image n (answer.Found at len need) = locationOf need (placedAt (standingBy image n (record { at = at; len = len })))
-locationBy image n (answer.Absent need) = location.Refused notLocated
-locationBy image n (answer.Refused r) = location.Refused r
+unfoldable pub locationBy : List ℕ → Edition → ℕ → Answer → Location
+locationBy image edition n (answer.Found at len need) =
+    locationOf need (placedAt (standingBy image edition n (record { at = at; len = len })))
+locationBy image edition n (answer.Absent need) = location.Refused notLocated
+locationBy image edition n (answer.Refused r) = location.Refused r
 
 unfoldable pub locatedBy : Location → Located
 locatedBy (location.At l need) = located.At l

@@ -8,6 +8,7 @@ use chunk::Standing;
 pub use descent::Advance;
 pub use descent::Step;
 pub use descent::advance_at;
+use fletcher::Edition;
 pub use keys::NAME;
 pub use keys::NameKey;
 pub use keys::NumberKey;
@@ -69,28 +70,31 @@ pub fn place_of(c: Chunk) -> Place
 }
 
 // Chunk `n` where the metadata value at a place says that it stands.
-fn standing_by(image: &[u8], n: u32, at: usize, len: usize) -> Standing
-    ensures { λ r. ⌜ r ≡ standingBy (now (image .entry)) n (record { at = at; len = len }) ⌝ }
+fn standing_by(image: &[u8], edition: Edition, n: u32, at: usize, len: usize) -> Standing
+    ensures { λ r. ⌜ r ≡ standingBy (now (image .entry)) edition n (record { at = at; len = len }) ⌝ }
 {
     let f = line::read_fields(text::bytes_at(image, at, len));
     let given = f.given;
     let values = f.values;
     if given[Fields::BLOCK] {
-        chunk::with_id(chunk::stands_at(image, values[Fields::BLOCK]), n as u64)
+        chunk::with_id(
+            chunk::stands_at(image, edition, values[Fields::BLOCK]),
+            n as u64,
+        )
     } else {
         Standing::Nothing
     }
 }
 
 // Where chunk `n` stands by the answer of its lookup; `need` is what the lookup took.
-pub fn location_by(image: &[u8], n: u32, f: Answer) -> Location
-    ensures { λ r. ⌜ r ≡ locationBy (now (image .entry)) n f ⌝ }
+pub fn location_by(image: &[u8], edition: Edition, n: u32, f: Answer) -> Location
+    ensures { λ r. ⌜ r ≡ locationBy (now (image .entry)) edition n f ⌝ }
 {
     match f {
         Answer::Refused(r) => Location::Refused(r),
         Answer::Absent { need: _ } => Location::Refused(Refusal::new(Refusal::NOT_LOCATED)),
         Answer::Found { at, len, need } => {
-            let s = standing_by(image, n, at, len);
+            let s = standing_by(image, edition, n, at, len);
             let Standing::Stands(c) = s else {
                 return Location::Refused(Refusal::new(Refusal::NOT_LOCATED));
             };

@@ -18,6 +18,7 @@ use answer::report_out;
 use answer::step_out;
 use answer::value_out;
 use cursor::Walk;
+use opening::View;
 ghost use mathlib.Core.Path.{_≡_};
 ghost use lib.ListN.{length};
 ghost use Rattle.viewing.specs.Viewing.{openedStore};
@@ -29,64 +30,65 @@ ghost use Rattle.map.specs.Map.{lookupOf, indexOf, countOf, copyOf, namedOf, it
 ghost use Rattle.mvstore.specs.Exports.{newestOut, valueOut, entryOut, countOut, idOut, stepOut, reportOut};
 
 #[no_mangle]
-pub extern "C" fn mvstore_newest(image: &[u8]) -> Newest
-    ensures { λ r. ⌜ r ≡ newestOut (openedStore (now (image .entry))) ⌝ }
+pub extern "C" fn mvstore_newest(image: &[u8], view: View) -> Newest
+    ensures { λ r. ⌜ r ≡ newestOut (openedStore (now (image .entry)) view) ⌝ }
 {
-    newest_out(viewing::open(image))
+    newest_out(viewing::open(image, view))
 }
 
 #[no_mangle]
-pub extern "C" fn mvstore_lookup(image: &[u8], map: u64, kind: u64, key: &[u8]) -> Value
-    ensures { λ r. ⌜ r ≡ valueOut (valueOf (lookupOf (now (image .entry)) map kind (now (key .entry)))) ⌝ }
+pub extern "C" fn mvstore_lookup(image: &[u8], view: View, map: u64, kind: u64, key: &[u8]) -> Value
+    ensures { λ r. ⌜ r ≡ valueOut (valueOf (lookupOf (now (image .entry)) view map kind (now (key .entry)))) ⌝ }
 {
-    value_out(map::lookup(image, map, kind, key))
+    value_out(map::lookup(image, view, map, kind, key))
 }
 
 #[no_mangle]
-pub extern "C" fn mvstore_index(image: &[u8], map: u64, kind: u64, index: u64) -> Entry
-    ensures { λ r. ⌜ r ≡ entryOut (itemOf (indexOf (now (image .entry)) map kind index)) ⌝ }
+pub extern "C" fn mvstore_index(image: &[u8], view: View, map: u64, kind: u64, index: u64) -> Entry
+    ensures { λ r. ⌜ r ≡ entryOut (itemOf (indexOf (now (image .entry)) view map kind index)) ⌝ }
 {
-    entry_out(map::index(image, map, kind, index))
+    entry_out(map::index(image, view, map, kind, index))
 }
 
 #[no_mangle]
-pub extern "C" fn mvstore_count(image: &[u8], map: u64, kind: u64) -> Count
-    ensures { λ r. ⌜ r ≡ countOut (countedOf (countOf (now (image .entry)) map kind)) ⌝ }
+pub extern "C" fn mvstore_count(image: &[u8], view: View, map: u64, kind: u64) -> Count
+    ensures { λ r. ⌜ r ≡ countOut (countedOf (countOf (now (image .entry)) view map kind)) ⌝ }
 {
-    count_out(map::count(image, map, kind))
+    count_out(map::count(image, view, map, kind))
 }
 
 #[no_mangle]
 pub extern "C" fn mvstore_copy(
     image: &[u8],
+    view: View,
     map: u64,
     kind: u64,
     key: &[u8],
     area: &mut [u8],
 ) -> Value
-    ensures answer { λ r. ⌜ r ≡ valueOut (valueOf (copyOf (now (image .entry)) map kind (now (key .entry)) (length (now (area .entry))))) ⌝ }
-    ensures area { λ _. ⌜ now (area .exit) ≡ areaAfter (now (image .entry)) (copyOf (now (image .entry)) map kind (now (key .entry)) (length (now (area .entry)))) (now (area .entry)) ⌝ }
+    ensures answer { λ r. ⌜ r ≡ valueOut (valueOf (copyOf (now (image .entry)) view map kind (now (key .entry)) (length (now (area .entry))))) ⌝ }
+    ensures area { λ _. ⌜ now (area .exit) ≡ areaAfter (now (image .entry)) (copyOf (now (image .entry)) view map kind (now (key .entry)) (length (now (area .entry)))) (now (area .entry)) ⌝ }
 {
-    value_out(map::copy(image, map, kind, key, area))
+    value_out(map::copy(image, view, map, kind, key, area))
 }
 
 #[no_mangle]
-pub extern "C" fn mvstore_map(image: &[u8], name: &[u8]) -> Id
-    ensures { λ r. ⌜ r ≡ idOut (namedOf (now (image .entry)) (now (name .entry))) ⌝ }
+pub extern "C" fn mvstore_map(image: &[u8], view: View, name: &[u8]) -> Id
+    ensures { λ r. ⌜ r ≡ idOut (namedOf (now (image .entry)) view (now (name .entry))) ⌝ }
 {
-    id_out(map::named(image, name))
+    id_out(map::named(image, view, name))
 }
 
 #[no_mangle]
-pub extern "C" fn mvstore_next(image: &[u8], map: u64, kind: u64, walk: Walk) -> Step
-    ensures { λ r. ⌜ r ≡ stepOut (stepOf (now (image .entry)) map kind walk) ⌝ }
+pub extern "C" fn mvstore_next(image: &[u8], view: View, map: u64, kind: u64, walk: Walk) -> Step
+    ensures { λ r. ⌜ r ≡ stepOut (stepOf (now (image .entry)) view map kind walk) ⌝ }
 {
-    step_out(walk::advance(image, map, kind, walk))
+    step_out(walk::advance(image, view, map, kind, walk))
 }
 
 #[no_mangle]
-pub extern "C" fn mvstore_examine(image: &[u8], map: u64, kind: u64) -> Report
-    ensures { λ r. ⌜ r ≡ reportOut (examinedOf (examineOf (now (image .entry)) map kind)) ⌝ }
+pub extern "C" fn mvstore_examine(image: &[u8], view: View, map: u64, kind: u64) -> Report
+    ensures { λ r. ⌜ r ≡ reportOut (examinedOf (examineOf (now (image .entry)) view map kind)) ⌝ }
 {
-    report_out(examine::examine(image, map, kind))
+    report_out(examine::examine(image, view, map, kind))
 }

@@ -5,6 +5,7 @@ use mathlib.Core.Bool.{Bool, true, false, cond}
 use mathlib.Core.List.{List}
 use native.Mathlib.Omega.{arith}
 use borrow.Author.Tests.{eq-eqb, ne-eqb, lt-ltb, le-ltb}
+use Rattle.fletcher.specs.declared.Edition.{Edition}
 use Rattle.chunk.specs.declared.Chunk.{Chunk}
 use Rattle.chunk.specs.declared.Standing.the-variants.{Stands, Nothing}
 use Rattle.chunk.specs.Image.{footerLine}
@@ -33,18 +34,18 @@ module _ (a b : Chunk) where
         rw (le-ltb (a .version) (b .version) q, eq-eqb (a .version) (b .version) (omega arith), le-ltb (b .block) (a .block) h)
 
 -- ## The image's last footer is the footer of a chunk that ends where the image ends
-module _ (image : List ℕ) (c : Chunk) (e : ℕ) where
-  pub footed-elsewhere : (c .block + c .len ≡ e → ⊥) → kept (endsAt e) (footed image c) ≡ Nothing
+module _ (image : List ℕ) (edition : Edition) (c : Chunk) (e : ℕ) where
+  pub footed-elsewhere : (c .block + c .len ≡ e → ⊥) → kept (endsAt e) (footed image edition c) ≡ Nothing
   unfolding footed
-  footed-elsewhere h = go (footerOf c (footerLine image (c .block + c .len)))
+  footed-elsewhere h = go (footerOf c (footerLine image edition (c .block + c .len)))
     where
       go : (t : Bool) → kept (endsAt e) (cond t (Stands c) Nothing) ≡ Nothing
       go true = rw (ne-eqb (c .block + c .len) e h)
       go false = refl
 
-  pub footed-ending : c .block + c .len ≡ e → kept (endsAt e) (footed image c) ≡ cond (footerOf c (footerLine image e)) (Stands c) Nothing
+  pub footed-ending : c .block + c .len ≡ e → kept (endsAt e) (footed image edition c) ≡ cond (footerOf c (footerLine image edition e)) (Stands c) Nothing
   unfolding footed
-  footed-ending h = rw h (go (footerOf c (footerLine image e)))
+  footed-ending h = rw h (go (footerOf c (footerLine image edition e)))
     where
       go : (t : Bool) → kept (endsAt e) (cond t (Stands c) Nothing) ≡ cond t (Stands c) Nothing
       go true = rw (eq-eqb (c .block + c .len) e h)

@@ -1,6 +1,7 @@
 // The file header's two copies.
 use chunk::Reading;
 use chunk::header_line;
+use fletcher::Edition;
 use line::Fields;
 ghost use mathlib.Core.Path.{_≡_};
 ghost use Rattle.opening.specs.Opening.{formatRight, namesAll, namesAny, good, copyOf, counting, headerOf};
@@ -104,11 +105,11 @@ fn counting_copy(a: Copy, b: Copy) -> Copy
 }
 
 // The file header.
-pub fn header_of(image: &[u8]) -> Copy
-    ensures { λ r. ⌜ r ≡ headerOf (now (image .entry)) ⌝ }
+pub fn header_of(image: &[u8], edition: Edition) -> Copy
+    ensures { λ r. ⌜ r ≡ headerOf (now (image .entry)) edition ⌝ }
 {
     counting_copy(
-        copy_of(header_line(image, 0)),
-        copy_of(header_line(image, 1)),
+        copy_of(header_line(image, edition, 0)),
+        copy_of(header_line(image, edition, 1)),
     )
 }

@@ -65,13 +65,13 @@ module _ (image : List ℕ) (store : Store) where
   module _ (q c : ℕ) (ws : List ℕ) (f : Answer) (other : ¬ (c ≡ store .newest .id)) (some-left : ¬ (q ≡ 0)) (few : q ≤ 8)
       (right : RightWords image store ws) (bytes : List ℕ) (is : bytes ≡ chunkKey c)
       (s : IsAnswer image store 0 Text (store .newest .root .bits) (keyOf Text bytes) (q - 1) f) where
-    tells-by : IsLocation image store q c (settledLocation image c f)
+    tells-by : IsLocation image store q c (settledLocation image (store .edition) c f)
     unfolding keyOf
     tells-by =
         let e : suc (q - 1) ≡ q = omega arith in
         rw e at (settled-tells image store c (q - 1) other f (rw is at s))
 
-    pub tells-settled : (t : Location) (zs : List ℕ) → t ≡ settledLocation image c f → zs ≡ settledWords c ws t
+    pub tells-settled : (t : Location) (zs : List ℕ) → t ≡ settledLocation image (store .edition) c f → zs ≡ settledWords c ws t
         → RightWords image store zs × IsLocation image store q c t
     tells-settled t zs e d = (rw (d, e) (settled-right image store c q right (omega arith) f tells-by), rw e tells-by)
 

@@ -4,6 +4,7 @@
 --   settledLocation, settledWords    locating by the metadata's answer, and the memory after it
 use Prim.Native.Nat.{ℕ, _+_}
 use mathlib.Core.List.{List}
+use Rattle.fletcher.specs.declared.Edition.{Edition}
 use Rattle.memory.specs.Words.{rememberedIn}
 use Rattle.metadata.specs.declared.Location.{Location}
 use Rattle.metadata.specs.declared.Location.the-variants as location
@@ -14,8 +15,8 @@ abbrev pub oneMore : Location → Location
 oneMore (location.Refused r) = location.Refused r
 oneMore (location.At l need) = location.At l (need + 1)
 
-unfoldable pub settledLocation : List ℕ → ℕ → Answer → Location
-settledLocation image n f = oneMore (locationBy image n f)
+unfoldable pub settledLocation : List ℕ → Edition → ℕ → Answer → Location
+settledLocation image edition n f = oneMore (locationBy image edition n f)
 
 unfoldable pub settledWords : ℕ → List ℕ → Location → List ℕ
 settledWords n ws (location.Refused r) = ws

@@ -46,7 +46,7 @@ metadata image store =
       root = store .newest .root .bits;
       chunkOf = chunkOf;
       keyOf = λ n. text (chunkKey n);
-      standing = λ n e. placedAt (standingBy image n (e .value));
+      standing = λ n e. placedAt (standingBy image (store .edition) n (e .value));
       pageIn = λ l p. pageIn image l p 0 Text;
     }
 

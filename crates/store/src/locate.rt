@@ -45,7 +45,8 @@ pub(crate) fn locate(image: &[u8], store: Store, memory: &mut [u64], c: u32, q: 
     let m = Map::metadata(store);
     let root = newest.root;
     let f = descend(image, memory, m, root, &bytes[..n], q - 1);
-    settle(image, memory, c, f)
+    let edition = store.edition;
+    settle(image, edition, memory, c, f)
 }
 
 // A lookup of `key` in the map whose root is given: one page a turn, at most 16.

@@ -1,5 +1,6 @@
 // Questions about lines.
 use super::MOST_BYTES;
+use super::numbers;
 use super::output;
 use line::Line;
 
@@ -32,11 +33,11 @@ fn fields(question: &[u8]) {
     }
 }
 
-// `right BYTES`: whether the line ends with a right `fletcher`.
+// `right EDITION BYTES`: whether the line ends with a right `fletcher`.
 fn right(question: &[u8]) {
     let mut area = [0u8; MOST_BYTES];
-    let n = script::bytes(question, 1, &mut area);
-    output::yes(line::right_sum(&area[..n]));
+    let n = script::bytes(question, 2, &mut area);
+    output::yes(line::right_sum(numbers::edition(question), &area[..n]));
 }
 
 // Whether the question is one of these; then it is answered.

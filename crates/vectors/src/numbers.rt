@@ -1,31 +1,41 @@
 // Questions about sums and about numbers as the file writes them.
 use super::MOST_BYTES;
 use super::output;
+use fletcher::Edition;
 use fletcher::Sums;
 use numeral::Number;
 use numeral::Numeral;
 
-// `sum BYTES`: the fletcher value.
+// The edition that a question names first: 2, or else 1.
+pub fn edition(question: &[u8]) -> Edition {
+    if script::number(question, 1, 16) == 2 {
+        Edition::Second
+    } else {
+        Edition::First
+    }
+}
+
+// `sum EDITION BYTES`: the fletcher value.
 fn sum(question: &[u8]) {
     let mut area = [0u8; MOST_BYTES];
-    let n = script::bytes(question, 1, &mut area);
-    output::number(fletcher::sum_text(&area[..n]));
+    let n = script::bytes(question, 2, &mut area);
+    output::number(fletcher::sum_text(edition(question), &area[..n]));
 }
 
 // The fletcher value of the first `n` bytes, or of all where there are fewer.
-fn sum_first(bytes: &[u8], n: usize) -> u64 {
+fn sum_first(e: Edition, bytes: &[u8], n: usize) -> u64 {
     if n < bytes.len() {
-        return fletcher::sum_text(&bytes[..n]);
+        return fletcher::sum_text(e, &bytes[..n]);
     }
-    fletcher::sum_text(bytes)
+    fletcher::sum_text(e, bytes)
 }
 
-// `fill BYTE COUNT`: the fletcher value of a text of so many times the byte, at most 65,536.
+// `fill EDITION BYTE COUNT`: the fletcher value of a text of so many times the byte, at most 65,536.
 fn fill(question: &[u8]) {
-    let byte = (script::number(question, 1, 16) % 256) as u8;
-    let n = script::number(question, 2, 16) as usize;
+    let byte = (script::number(question, 2, 16) % 256) as u8;
+    let n = script::number(question, 3, 16) as usize;
     let area = [byte; 65536];
-    output::number(sum_first(&area, n));
+    output::number(sum_first(edition(question), &area, n));
 }
 
 // The sums after so many times the word.
@@ -39,7 +49,7 @@ fn filled(w: u16, count: u64) -> Sums {
     t
 }
 
-// `words BYTE COUNT`: the same value, from sums that are taken a word at a time.
+// `words BYTE COUNT`: the value of the words of such a text, from sums that are taken a word at a time.
 fn words(question: &[u8]) {
     let byte = script::number(question, 1, 16) % 256;
     let t = filled((byte * 257) as u16, script::number(question, 2, 16) / 2);

@@ -4,6 +4,7 @@ use mathlib.Core.List.{List}
 use Rattle.key.specs.declared.Kind.{Kind}
 use Rattle.key.specs.Key.{Key}
 use Rattle.tree.specs.Walk.{Moved}
+use Rattle.opening.specs.declared.View.{View}
 use Rattle.content.specs.Content.{Entry, keyIn}
 use Rattle.cursor.specs.declared.Walk.{Walk}
 use Rattle.cursor.specs.declared.Yield.{Yield}
@@ -28,6 +29,6 @@ unfoldable pub stepBy : List ℕ → Kind → Stepped → Step
 stepBy image kind s = record { walk = s .walk; next = nextBy image kind (s .got) }
 
 -- what is next in a map that may be asked for
-unfoldable pub movedAfter : List ℕ → ℕ → Kind → Walk → Moved (Key × Entry)
-movedAfter image id kind w =
-    movedIn (openedStore image) (λ s. movedIn (mapRoot image s id) (λ root. movedBy (reader image s id kind) root (numbers w)))
+unfoldable pub movedAfter : List ℕ → View → ℕ → Kind → Walk → Moved (Key × Entry)
+movedAfter image view id kind w =
+    movedIn (openedStore image view) (λ s. movedIn (mapRoot image s id) (λ root. movedBy (reader image s id kind) root (numbers w)))

@@ -15,6 +15,7 @@ use Rattle.text.specs.Text.{within}
 use Rattle.key.specs.Key.{Key, number, text}
 use Rattle.tree.specs.Page.{branch}
 use Rattle.tree.specs.Walk.{Moved, yield, over, stop}
+use Rattle.opening.specs.declared.View.{View}
 use Rattle.content.specs.Content.{Entry}
 use Rattle.cursor.specs.declared.Walk.{Walk}
 use Rattle.cursor.specs.Walk.{numbers, closed, doneNumber, stateAfter, movedBy, movedIn}
@@ -42,11 +43,11 @@ nextOf (stop r) = next.Refused r
 unfoldable pub given : Walk → Moved (Key × Entry) → Step
 given w m = record { walk = stateAfter w m; next = nextOf m }
 
-module _ (image : List ℕ) (map kind : ℕ) where
+module _ (image : List ℕ) (view : View) (map kind : ℕ) where
   unfoldable pub movedOf : Walk → Moved (Key × Entry)
   movedOf w =
       movedIn (askedMap map kind) (λ m.
-      movedIn (openedStore image) (λ s.
+      movedIn (openedStore image view) (λ s.
       movedIn (mapRoot image s (m .0)) (λ root. movedBy (reader image s (m .0) (m .1)) root (numbers w))))
 
   -- "is given again at each later step before anything is judged, the state unchanged"

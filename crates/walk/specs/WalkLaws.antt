@@ -13,6 +13,7 @@ use Rattle.key.specs.declared.Kind.{Kind}
 use Rattle.key.specs.Key.{Key, number, text}
 use Rattle.tree.specs.Walk.{Moved, yield, over, stop}
 use Rattle.tree.specs.WalkHoldsLaws.{Holds}
+use Rattle.opening.specs.declared.View.{View}
 use Rattle.opening.specs.declared.Store.{Store}
 use Rattle.content.specs.Content.{Entry, keyIn}
 use Rattle.content.specs.InsideLaws.{EntryIn}
@@ -80,13 +81,13 @@ step-keyed image kind w (yield (k, e) i is) h = rw (h .key-there)
 step-keyed image kind w over h = refl
 step-keyed image kind w (stop r) h = refl
 
-module _ (image : List ℕ) (id : ℕ) (kind : Kind) (w : Walk) where
-  pub after-shut : {r : Refusal} → openedStore image ≡ refuse r → given w (stop r) ≡ given w (movedAfter image id kind w)
+module _ (image : List ℕ) (view : View) (id : ℕ) (kind : Kind) (w : Walk) where
+  pub after-shut : {r : Refusal} → openedStore image view ≡ refuse r → given w (stop r) ≡ given w (movedAfter image view id kind w)
   unfolding movedAfter
   after-shut e = rw e
 
-  pub after-open : {o : Store} → openedStore image ≡ ok o → {s : Stepped} → s ≡ stepIn image o id kind w
-      → stepBy image kind s ≡ given w (movedAfter image id kind w)
+  pub after-open : {o : Store} → openedStore image view ≡ ok o → {s : Stepped} → s ≡ stepIn image o id kind w
+      → stepBy image kind s ≡ given w (movedAfter image view id kind w)
   unfolding movedAfter stepIn
   after-open {o} e f = rw (e, f) (step-keyed image kind w _ (go (mapRoot image o id)))
     where
@@ -102,27 +103,27 @@ module _ (image : List ℕ) (id : ℕ) (kind : Kind) (w : Walk) where
 pub table-small : (n : ℕ) → within 1 16 n ≡ true → n ≤ 16
 table-small n t = leb-true n 16 (and-eq-true-iff (leb 1 n) (leb n 16) .0 t .1)
 
-module _ (image : List ℕ) (map kind : ℕ) (w : Walk) where
-  pub step-done : w .last ≡ doneNumber → (let x : Step = record { walk = w; next = next.Done } in x) ≡ stepOf image map kind w
+module _ (image : List ℕ) (view : View) (map kind : ℕ) (w : Walk) where
+  pub step-done : w .last ≡ doneNumber → (let x : Step = record { walk = w; next = next.Done } in x) ≡ stepOf image view map kind w
   unfolding stepOf recorded
   step-done e = rw (eq-eqb (w .last) doneNumber e)
 
   module _ (other : ¬ (w .last ≡ doneNumber)) where
     pub step-again : within 1 16 (w .last) ≡ true → {r : Refusal} → r ≡ refusal (w .last)
-        → (let x : Step = record { walk = w; next = next.Refused r } in x) ≡ stepOf image map kind w
+        → (let x : Step = record { walk = w; next = next.Refused r } in x) ≡ stepOf image view map kind w
     unfolding stepOf recorded
     step-again h e = rw (ne-eqb (w .last) doneNumber other, h, e)
 
     -- nothing is recorded
     module _ (free : within 1 16 (w .last) ≡ false) where
-      step-going : given w (movedOf image map kind w) ≡ stepOf image map kind w
+      step-going : given w (movedOf image view map kind w) ≡ stepOf image view map kind w
       unfolding stepOf recorded
       step-going = rw (ne-eqb (w .last) doneNumber other, free)
 
-      pub step-bad : {r : Refusal} → askedMap map kind ≡ refuse r → given w (stop r) ≡ stepOf image map kind w
+      pub step-bad : {r : Refusal} → askedMap map kind ≡ refuse r → given w (stop r) ≡ stepOf image view map kind w
       unfolding movedOf
       step-bad e = rw e at step-going
 
-      pub step-asked : {id : ℕ} {k : Kind} → askedMap map kind ≡ ok (id, k) → given w (movedAfter image id k w) ≡ stepOf image map kind w
+      pub step-asked : {id : ℕ} {k : Kind} → askedMap map kind ≡ ok (id, k) → given w (movedAfter image view id k w) ≡ stepOf image view map kind w
       unfolding movedOf movedAfter
       step-asked e = rw e at step-going

@@ -6,6 +6,7 @@ use cursor::Yield;
 use key::Kind;
 use map::Item;
 use map::Target;
+use opening::View;
 use refusal::Refusal;
 use viewing::Viewed;
 ghost use mathlib.Core.Path.{_≡_};
@@ -107,10 +108,10 @@ fn refused(w: Walk, r: Refusal) -> Step
 }
 
 // A step in a map that may be asked for.
-fn advance_in(image: &[u8], id: u32, kind: Kind, w: Walk) -> Step
-    ensures { λ r. ⌜ r ≡ given w (movedAfter (now (image .entry)) id kind w) ⌝ }
+fn advance_in(image: &[u8], view: View, id: u32, kind: Kind, w: Walk) -> Step
+    ensures { λ r. ⌜ r ≡ given w (movedAfter (now (image .entry)) view id kind w) ⌝ }
 {
-    let o = viewing::open(image);
+    let o = viewing::open(image, view);
     match o {
         Viewed::Refused(r) => refused(w, r),
         Viewed::Is(s) => step_by(image, kind, store::advance(image, s, id, kind, w)),
@@ -118,8 +119,8 @@ fn advance_in(image: &[u8], id: u32, kind: Kind, w: Walk) -> Step
 }
 
 // One step of the walk.
-pub fn advance(image: &[u8], map: u64, kind: u64, w: Walk) -> Step
-    ensures { λ r. ⌜ r ≡ stepOf (now (image .entry)) map kind w ⌝ }
+pub fn advance(image: &[u8], view: View, map: u64, kind: u64, w: Walk) -> Step
+    ensures { λ r. ⌜ r ≡ stepOf (now (image .entry)) view map kind w ⌝ }
 {
     let last = w.last;
     if last == Walk::DONE {
@@ -137,6 +138,6 @@ pub fn advance(image: &[u8], map: u64, kind: u64, w: Walk) -> Step
     let a = map::asked(map, kind);
     match a {
         Target::Refused(r) => refused(w, r),
-        Target::Map { id, kind: k } => advance_in(image, id, k, w),
+        Target::Map { id, kind: k } => advance_in(image, view, id, k, w),
     }
 }

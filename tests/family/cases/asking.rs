@@ -5,7 +5,7 @@ use crate::build::tree::number_key;
 use crate::family::case::{join, Case};
 use crate::family::questions::*;
 use crate::family::standard::{numbered, standard, Standard};
-use crate::subject::{MapArgs, Question};
+use crate::subject::MapArgs;
 
 pub fn cases() -> Vec<Case> {
     join(vec![arguments(), names(), roots(), lookups(), indexes(), copies(), listings()])
@@ -14,16 +14,15 @@ pub fn cases() -> Vec<Case> {
 /// Refusal 1 in each call.
 fn arguments() -> Vec<Case> {
     let why = "kind not 0 or 1; map 0 with kind 0; map id above 2^31-1; key badly formed; map name";
-    let key = |map, key: &[u8]| Question::Lookup { map, key: key.to_vec() };
     let maps = [(1, 2), (1, u64::MAX), (0, 0), (1 << 31, 0), (u64::MAX, 1)];
     let mut case = Case::standard("bad-arguments", why, &|_| {});
     for (id, kind) in maps {
         let map = MapArgs { id, kind };
         let asked = [
-            key(map, &[0; 8]),
+            lookup_bytes(map, &[0; 8]),
             index_in(map, 0),
             count_of(map),
-            Question::Copy { map, key: vec![0; 8], area: 9 },
+            copy_bytes(map, &[0; 8], 9),
             walk_in(map, &[]),
             examine_of(map),
         ];
@@ -32,13 +31,14 @@ fn arguments() -> Vec<Case> {
     let long = "x".repeat(1001);
     case = case.refuses(vec![find(""), find("a\n"), find("\u{7f}"), find(&long)], 1);
     case = case.says(find(&long[..1000]), "refused 13");
-    case = case.refuses(vec![key(FORCES, &[]), key(FORCES, &[0; 7]), key(FORCES, &[0; 9])], 1);
-    case = case.refuses(vec![key(NOTES, &[31]), key(NOTES, &[b'k'; 1025]), key(NOTES, &[127])], 1);
-    let copy = Question::Copy { map: NOTES, key: b"a\0".to_vec(), area: 4 };
+    let numbers: [&[u8]; 3] = [&[], &[0; 7], &[0; 9]];
+    case = case.refuses(numbers.map(|key| lookup_bytes(FORCES, key)).to_vec(), 1);
+    let texts: [&[u8]; 3] = [&[31], &[b'k'; 1025], &[127]];
+    case = case.refuses(texts.map(|key| lookup_bytes(NOTES, key)).to_vec(), 1);
     let last = MapArgs { id: (1 << 31) - 1, kind: 1 };
     vec![case
-        .refuses(vec![copy], 1)
-        .says(key(NOTES, &[b'k'; 1024]), "absent")
+        .refuses(vec![copy_bytes(NOTES, b"a\0", 4)], 1)
+        .says(lookup_bytes(NOTES, &[b'k'; 1024]), "absent")
         .says(count_of(last), "count 0")]
 }
 
@@ -187,7 +187,7 @@ fn listings() -> Vec<Case> {
     let listed =
         format!("text chunk 3 block 5 version 3 | map 1 entries 6 pages 4 depth 2 | {entries}");
     vec![
-        sized("listing-of-65536-bytes", 65536).says(Question::List, &listed),
-        sized("listing-of-65537-bytes", 65537).says(Question::List, "text refused 2"),
+        sized("listing-of-65536-bytes", 65536).says(list(), &listed),
+        sized("listing-of-65537-bytes", 65537).says(list(), "text refused 2"),
     ]
 }

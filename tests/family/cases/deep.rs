@@ -6,7 +6,6 @@ use crate::family::base::deep;
 use crate::family::case::Case;
 use crate::family::questions::*;
 use crate::model::walk::{State, FRESH};
-use crate::subject::Question;
 
 /// "depth" comes before everything else of a page. The calls that go below the root meet it.
 pub fn cases() -> Vec<Case> {
@@ -23,7 +22,7 @@ pub fn cases() -> Vec<Case> {
         edit(&mut plan.chunks[0].pages[0]);
         Case::new(name, order, plan.image()).refuses(below(), 11)
     };
-    let walk_16 = Question::Walk { map: FORCES, state: State { depth: 16, ..FRESH } };
+    let walk_16 = walk_from(FORCES, State { depth: 16, ..FRESH });
     vec![
         Case::new("map-17-deep", seventeenth, deep(17, 1).image())
             .refuses(below(), 11)

@@ -4,10 +4,10 @@ use crate::build::line::{LinePlan, Sum};
 use crate::family::base::single;
 use crate::family::case::{join, Case};
 use crate::family::questions::*;
-use crate::model::fletcher::fletcher;
+use crate::model::fletcher::{fletcher, Edition};
 
 pub fn cases() -> Vec<Case> {
-    join(vec![fields(), fletchers(), lines(), accepted()])
+    join(vec![fields(), fletchers(), odd_and_long(), lines(), accepted()])
 }
 
 fn edited(name: &str, why: &str, edit: &dyn Fn(&mut LinePlan)) -> Case {
@@ -51,12 +51,12 @@ fn fletchers() -> Vec<Case> {
     vec![
         refused("header-sum-wrong", "a right fletcher", &|l| l.sum = Sum::Xor(1)),
         refused("header-sum-first-and-second-swapped", "second sum times 65536 plus first", &|l| {
-            let sum = fletcher(&text_before_sum(l));
+            let sum = fletcher(Edition::First, &text_before_sum(l));
             l.sum = Sum::Xor(sum ^ (sum >> 16 | (sum & 0xffff) << 16));
         }),
         refused("header-without-sum", ends, &|l| l.sum = Sum::None),
         refused("header-sum-not-last", ends, &|l| {
-            let sum = fletcher(&text_before_sum(l));
+            let sum = fletcher(Edition::First, &text_before_sum(l));
             l.sum = Sum::None;
             l.set("fletcher", sum);
             l.set("created", 1);
@@ -65,8 +65,8 @@ fn fletchers() -> Vec<Case> {
         refused("header-odd-byte-counted", odd, &|l| {
             make_odd(l);
             let text = text_before_sum(l);
-            let counted = fletcher(&[&text[..], &[0]].concat());
-            l.sum = Sum::Xor(fletcher(&text) ^ counted);
+            let counted = fletcher(Edition::Second, &text);
+            l.sum = Sum::Xor(fletcher(Edition::First, &text) ^ counted);
         }),
         refused("header-of-the-documents", "that copy isn't good", &|l| {
             l.fields.clear();
@@ -78,10 +78,17 @@ fn fletchers() -> Vec<Case> {
             }
             l.sum = Sum::Xor(0x1a2bd87b ^ 0x3044e6cc);
         }),
+    ]
+}
+
+/// The odd last byte, and texts that a sum reduced at its end only has no room for.
+fn odd_and_long() -> Vec<Case> {
+    let odd = "an odd last byte is not counted";
+    vec![
         refused("header-sum-reduced-too-late", "both are taken modulo 65535", &|l| {
             make_long(l);
             let text = text_before_sum(l);
-            l.sum = Sum::Xor(fletcher(&text) ^ reduced_too_late(&text));
+            l.sum = Sum::Xor(fletcher(Edition::First, &text) ^ reduced_too_late(&text));
         }),
         edited("header-odd-text", odd, &make_odd)
             .says(open(), "chunk 3 block 5 blocks 1 version 3"),

@@ -3,6 +3,7 @@
 mod asking;
 mod checks;
 mod deep;
+mod editions;
 mod examining;
 mod headers;
 mod locating;
@@ -28,13 +29,14 @@ pub fn all() -> Vec<(Base, Vec<Case>)> {
         order::cases(),
         readers::cases(),
         seeded::cases(),
+        editions::standard_cases(),
     ];
     vec![
         (base::standard_base(), join(standard)),
         (base::tiny_base(), join(vec![place::cases(), checks::cases()])),
-        (base::single_base(), headers::cases()),
+        (base::single_base(), join(vec![headers::cases(), editions::header_cases()])),
         (base::lone_base(), standing::cases()),
-        (base::forked_base(), opening::cases()),
+        (base::forked_base(), join(vec![opening::cases(), editions::opening_cases()])),
         (base::nested_base(), locating::nested_cases()),
         (base::deep_base(), deep::cases()),
     ]

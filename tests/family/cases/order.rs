@@ -29,13 +29,12 @@ const ILL_FORMED: State = State { depth: 17, ..FRESH };
 /// Questions whose arguments are refused, one for each call.
 fn bad_arguments() -> Vec<Question> {
     let map = MapArgs { id: 1, kind: 2 };
-    let key = vec![0; 8];
     vec![
         find(""),
-        Question::Lookup { map, key: key.clone() },
+        lookup_bytes(map, &[0; 8]),
         index_in(map, 0),
         count_of(map),
-        Question::Copy { map, key, area: 0 },
+        copy_bytes(map, &[0; 8], 0),
         walk_in(map, &[]),
         examine_of(map),
     ]
@@ -44,7 +43,7 @@ fn bad_arguments() -> Vec<Question> {
 /// "Arguments come first, then opening, then the map."
 fn calls() -> Vec<Case> {
     let why = "arguments come first, then opening, then the map";
-    let walk_ill = || vec![Question::Walk { map: FORCES, state: ILL_FORMED }];
+    let walk_ill = || vec![walk_from(FORCES, ILL_FORMED)];
     let cut = |name, blocks: u64| {
         Case::standard(name, why, &|s| {
             s.plan.blocks = blocks;
@@ -65,7 +64,7 @@ fn calls() -> Vec<Case> {
             .refuses(bad_arguments(), 1)
             .refuses(walk_ill(), 14),
         Case::standard("key-before-the-empty-map", why, &|_| {})
-            .refuses(vec![Question::Lookup { map: BLANK, key: vec![0] }], 1),
+            .refuses(vec![lookup_bytes(BLANK, &[0])], 1),
     ]
 }
 
@@ -191,7 +190,7 @@ fn walks() -> Vec<Case> {
     let faulty = |name, edit: &dyn Fn(&mut Standard)| Case::standard(name, why, edit);
     vec![
         faulty("state-before-the-root-page", &|s| s.plan.page(s.forces).check_xor = 1)
-            .refuses(vec![Question::Walk { map: FORCES, state: ILL_FORMED }], 12)
+            .refuses(vec![walk_from(FORCES, ILL_FORMED)], 12)
             .refuses(vec![walk(&[9, 9]), walk(&[]), walk(&[0, 0, 0])], 8),
         faulty("number-before-the-page-below", &|s| s.plan.page(s.leaves[2]).check_xor = 1)
             .refuses(vec![walk(&[3, 0]), walk(&[2])], 12)

@@ -4,14 +4,10 @@ use crate::build::page::PagePlan;
 use crate::family::case::Case;
 use crate::family::questions::*;
 use crate::model::walk::{State, DONE, FRESH, GOING_ON, PLACES};
-use crate::subject::{MapArgs, Question};
+use crate::subject::MapArgs;
 
 pub fn cases() -> Vec<Case> {
     vec![recorded(), ill_formed(), unfit(), steps(), empty_leaf(), empty_maps(), moved_leaf()]
-}
-
-fn from(map: MapArgs, state: State) -> Question {
-    Question::Walk { map, state }
 }
 
 fn with(places: &[u64], depth: u64, last: u64) -> State {
@@ -26,12 +22,12 @@ fn recorded() -> Case {
     let mut case = Case::standard("walk-recorded-answer", why, &|_| {});
     for number in 1..=16 {
         let words = format!("refused {number}; state 3 {number} 1,5,9");
-        case = case.says(from(nonsense, with(&[1, 5, 9], 3, number)), &words);
+        case = case.says(walk_from(nonsense, with(&[1, 5, 9], 3, number)), &words);
     }
     let done = format!("done; state 99 {DONE} 1,5,9");
-    case = case.says(from(nonsense, with(&[1, 5, 9], 99, DONE)), &done);
+    case = case.says(walk_from(nonsense, with(&[1, 5, 9], 99, DONE)), &done);
     // A refusal of the arguments is recorded like any other.
-    case.says(from(nonsense, FRESH), "refused 1; state 0 1 -")
+    case.says(walk_from(nonsense, FRESH), "refused 1; state 0 1 -")
 }
 
 /// "a state not so formed ... refuses with 12"
@@ -51,7 +47,7 @@ fn ill_formed() -> Case {
         with(&[], 0, u64::MAX),
     ];
     let case = Case::standard("walk-state-ill-formed", why, &|_| {});
-    let asked = |map| ill.iter().map(|&state| from(map, state)).collect::<Vec<_>>();
+    let asked = |map| ill.iter().map(|&state| walk_from(map, state)).collect::<Vec<_>>();
     case.refuses(asked(FORCES), 12).refuses(asked(BLANK), 12).refuses(asked(BARE), 12)
 }
 
@@ -69,7 +65,7 @@ fn unfit() -> Case {
         walk_in(BEAMS, &[1, 2, 0]),
     ];
     let all = [&forces.map(walk)[..], &others].concat();
-    let deepest = Question::Walk { map: FORCES, state: State { depth: 16, ..FRESH } };
+    let deepest = walk_from(FORCES, State { depth: 16, ..FRESH });
     Case::standard("walk-state-unfit", why, &|_| {}).refuses(all, 12).refuses(vec![deepest], 12)
 }
 

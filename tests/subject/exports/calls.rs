@@ -4,6 +4,12 @@ use std::ptr;
 
 #[repr(C)]
 #[derive(Clone, Copy, Debug)]
+pub struct View {
+    pub edition: u64,
+}
+
+#[repr(C)]
+#[derive(Clone, Copy, Debug)]
 pub struct Chunk {
     pub refusal: u32,
     pub chunk: u32,
@@ -80,11 +86,18 @@ type Bytes = *const u8;
 
 // As include/mvstore.h declares them.
 extern "C" {
-    pub fn mvstore_newest(image: Bytes, image_len: usize) -> Chunk;
-    pub fn mvstore_map(image: Bytes, image_len: usize, name: Bytes, name_len: usize) -> Id;
+    pub fn mvstore_newest(image: Bytes, image_len: usize, view: View) -> Chunk;
+    pub fn mvstore_map(
+        image: Bytes,
+        image_len: usize,
+        view: View,
+        name: Bytes,
+        name_len: usize,
+    ) -> Id;
     pub fn mvstore_lookup(
         image: Bytes,
         image_len: usize,
+        view: View,
         map: u64,
         kind: u64,
         key: Bytes,
@@ -93,6 +106,7 @@ extern "C" {
     pub fn mvstore_copy(
         image: Bytes,
         image_len: usize,
+        view: View,
         map: u64,
         kind: u64,
         key: Bytes,
@@ -100,10 +114,30 @@ extern "C" {
         area: *mut u8,
         area_len: usize,
     ) -> Value;
-    pub fn mvstore_index(image: Bytes, image_len: usize, map: u64, kind: u64, index: u64) -> Entry;
-    pub fn mvstore_count(image: Bytes, image_len: usize, map: u64, kind: u64) -> Count;
-    pub fn mvstore_next(image: Bytes, image_len: usize, map: u64, kind: u64, walk: Walk) -> Step;
-    pub fn mvstore_examine(image: Bytes, image_len: usize, map: u64, kind: u64) -> Report;
+    pub fn mvstore_index(
+        image: Bytes,
+        image_len: usize,
+        view: View,
+        map: u64,
+        kind: u64,
+        index: u64,
+    ) -> Entry;
+    pub fn mvstore_count(image: Bytes, image_len: usize, view: View, map: u64, kind: u64) -> Count;
+    pub fn mvstore_next(
+        image: Bytes,
+        image_len: usize,
+        view: View,
+        map: u64,
+        kind: u64,
+        walk: Walk,
+    ) -> Step;
+    pub fn mvstore_examine(
+        image: Bytes,
+        image_len: usize,
+        view: View,
+        map: u64,
+        kind: u64,
+    ) -> Report;
 }
 
 /// A slice as C lends it: "A null pointer may be passed with length 0."

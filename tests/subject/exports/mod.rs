@@ -4,7 +4,8 @@ pub mod answers;
 pub mod calls;
 mod walk;
 
-use super::{Answer, Call, MapArgs, Question, Reply, Subject, AREA_FILL};
+use super::{Answer, Asks, Call, MapArgs, Question, Reply, Subject, AREA_FILL};
+use crate::model::ask;
 use calls::*;
 
 /// The bytes before and after a copy's area, which a copy must leave alone. An odd number, so that
@@ -24,60 +25,81 @@ impl Subject for Exports {
     }
 
     fn reply(&mut self, image: &[u8], question: &Question) -> Option<Reply> {
-        let answer = match question {
-            Question::Open => answers::of_chunk(&newest(image)),
-            Question::Find { name } => answers::of_id(&map(image, name)),
-            Question::Lookup { map, key } => answers::of_value(&lookup(image, *map, key)),
-            Question::Index { map, at } => answers::of_entry(map.kind, &index(image, *map, *at)),
-            Question::Count { map } => answers::of_count(&count(image, *map)),
-            Question::Copy { map, key, area } => return Some(copied(image, *map, key, *area)),
-            Question::Walk { map, state } => return walk::stepped(image, *map, state),
-            Question::Examine { map } => answers::of_report(&examine(image, *map)),
-            Question::List => return None,
+        let lent = &Lent { image, view: question.view };
+        let answer = match &question.asks {
+            Asks::Open => answers::of_chunk(&newest(lent)),
+            Asks::Find { name } => answers::of_id(&map(lent, name)),
+            Asks::Lookup { map, key } => answers::of_value(&lookup(lent, *map, key)),
+            Asks::Index { map, at } => answers::of_entry(map.kind, &index(lent, *map, *at)),
+            Asks::Count { map } => answers::of_count(&count(lent, *map)),
+            Asks::Copy { map, key, area } => return Some(copied(lent, *map, key, *area)),
+            Asks::Walk { map, state } => return walk::stepped(lent, *map, state),
+            Asks::Examine { map } => answers::of_report(&examine(lent, *map)),
+            Asks::List => return None,
         };
         Some(Reply { answer, area: None, state: None })
+    }
+}
+
+/// What every call takes first: the image, and how to open it.
+pub struct Lent<'a> {
+    pub image: &'a [u8],
+    pub view: ask::View,
+}
+
+impl Lent<'_> {
+    /// As C takes them.
+    fn parts(&self) -> (*const u8, usize, View) {
+        (lent(self.image), self.image.len(), View { edition: self.view.edition })
     }
 }
 
 // SAFETY, of each call: every pointer goes with the length of the slice it was taken from, or is
 // null with length 0; the slices live through the call, and only the area is lent to be written.
 
-pub fn newest(image: &[u8]) -> Chunk {
-    unsafe { mvstore_newest(lent(image), image.len()) }
+pub fn newest(of: &Lent) -> Chunk {
+    let (image, length, view) = of.parts();
+    unsafe { mvstore_newest(image, length, view) }
 }
 
-pub fn map(image: &[u8], name: &[u8]) -> Id {
-    unsafe { mvstore_map(lent(image), image.len(), lent(name), name.len()) }
+pub fn map(of: &Lent, name: &[u8]) -> Id {
+    let (image, length, view) = of.parts();
+    unsafe { mvstore_map(image, length, view, lent(name), name.len()) }
 }
 
-pub fn lookup(image: &[u8], map: MapArgs, key: &[u8]) -> Value {
-    unsafe { mvstore_lookup(lent(image), image.len(), map.id, map.kind, lent(key), key.len()) }
+pub fn lookup(of: &Lent, map: MapArgs, key: &[u8]) -> Value {
+    let (image, length, view) = of.parts();
+    unsafe { mvstore_lookup(image, length, view, map.id, map.kind, lent(key), key.len()) }
 }
 
-pub fn index(image: &[u8], map: MapArgs, at: u64) -> Entry {
-    unsafe { mvstore_index(lent(image), image.len(), map.id, map.kind, at) }
+pub fn index(of: &Lent, map: MapArgs, at: u64) -> Entry {
+    let (image, length, view) = of.parts();
+    unsafe { mvstore_index(image, length, view, map.id, map.kind, at) }
 }
 
-pub fn count(image: &[u8], map: MapArgs) -> Count {
-    unsafe { mvstore_count(lent(image), image.len(), map.id, map.kind) }
+pub fn count(of: &Lent, map: MapArgs) -> Count {
+    let (image, length, view) = of.parts();
+    unsafe { mvstore_count(image, length, view, map.id, map.kind) }
 }
 
-pub fn examine(image: &[u8], map: MapArgs) -> Report {
-    unsafe { mvstore_examine(lent(image), image.len(), map.id, map.kind) }
+pub fn examine(of: &Lent, map: MapArgs) -> Report {
+    let (image, length, view) = of.parts();
+    unsafe { mvstore_examine(image, length, view, map.id, map.kind) }
 }
 
-pub fn copy(image: &[u8], map: MapArgs, key: &[u8], area: &mut [u8]) -> Value {
-    let (image_len, key_len, area_len) = (image.len(), key.len(), area.len());
-    let (image, key, area) = (lent(image), lent(key), lent_area(area));
-    unsafe { mvstore_copy(image, image_len, map.id, map.kind, key, key_len, area, area_len) }
+pub fn copy(of: &Lent, map: MapArgs, key: &[u8], area: &mut [u8]) -> Value {
+    let (image, length, view) = of.parts();
+    let (key_len, area_len) = (key.len(), area.len());
+    let (key, area) = (lent(key), lent_area(area));
+    unsafe { mvstore_copy(image, length, view, map.id, map.kind, key, key_len, area, area_len) }
 }
 
 /// A copy into an area that lies between two margins.
-fn copied(image: &[u8], map: MapArgs, key: &[u8], length: usize) -> Reply {
+fn copied(of: &Lent, map: MapArgs, key: &[u8], length: usize) -> Reply {
     let mut bytes = vec![MARGIN_FILL; length + 2 * MARGIN];
     let inside = MARGIN..MARGIN + length;
     bytes[inside.clone()].fill(AREA_FILL);
-    let raw = copy(image, map, key, &mut bytes[inside.clone()]);
+    let raw = copy(of, map, key, &mut bytes[inside.clone()]);
     let margins = [&bytes[..inside.start], &bytes[inside.end..]].concat();
     let answer = if margins.iter().all(|&byte| byte == MARGIN_FILL) {
         answers::of_value(&raw)

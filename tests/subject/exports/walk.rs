@@ -1,20 +1,21 @@
 //! A step of the walk through its export, whose state has places of 32 bits.
 
-use super::answers;
-use super::calls::{lent, mvstore_next, Step, Walk};
+use super::calls::{mvstore_next, Step, Walk};
+use super::{answers, Lent};
 use crate::model::walk::State;
 use crate::subject::{MapArgs, Reply};
 
 /// None where a number of the state is wider than the interface's.
-pub fn stepped(image: &[u8], map: MapArgs, state: &State) -> Option<Reply> {
-    let raw = next(image, map, narrow(state)?);
+pub fn stepped(of: &Lent, map: MapArgs, state: &State) -> Option<Reply> {
+    let raw = next(of, map, narrow(state)?);
     let answer = answers::of_step(map.kind, &raw);
     Some(Reply { answer, area: None, state: Some(wide(&raw.walk)) })
 }
 
-pub fn next(image: &[u8], map: MapArgs, walk: Walk) -> Step {
+pub fn next(of: &Lent, map: MapArgs, walk: Walk) -> Step {
+    let (image, length, view) = of.parts();
     // SAFETY: the pointer goes with its slice's length, or is null with length 0.
-    unsafe { mvstore_next(lent(image), image.len(), map.id, map.kind, walk) }
+    unsafe { mvstore_next(image, length, view, map.id, map.kind, walk) }
 }
 
 fn narrow(state: &State) -> Option<Walk> {

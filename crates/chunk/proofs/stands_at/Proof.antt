@@ -10,7 +10,7 @@ use Rattle.chunk.proofs.stands_at.Tie as tie
 returns : tie.Need-returns
 returns c =
     let a = c .before .before .before .before .args in
-    sym (stands-unsaid (now (a .image)) (a .b) (sym (c .before .before .said-at .ensures) ∙ c .enum-told .given .1))
+    sym (stands-unsaid (now (a .image)) (a .edition) (a .b) (sym (c .before .before .said-at .ensures) ∙ c .enum-told .given .1))
 
 with-footer-requires : tie.Need-with-footer-requires
 with-footer-requires c κs =
@@ -23,7 +23,7 @@ returns-2 c =
     let c2 = c .before .before in
     let a = c2 .before .before .before .before .args in
     let s = sym (c2 .before .before .said-at .ensures) ∙ c2 .s .given .1 in
-    c .with-footer .ensures ∙ sym (stands-footed (now (a .image)) (a .b) s)
+    c .with-footer .ensures ∙ sym (stands-footed (now (a .image)) (a .b) s (a .edition))
 
 pub stands-at-spec : {M : Type 1} → statement M
 stands-at-spec =

@@ -4,6 +4,7 @@ use mathlib.Core.Path.{_≡_, sym, subst, _∙_}
 use native.Mathlib.Nat.{add-zero}
 use native.Mathlib.Omega.{arith}
 use lib.ListN.{drop}
+use Rattle.fletcher.specs.declared.Edition.{Edition}
 use Rattle.fletcher.specs.Fletcher.{sums}
 use Rattle.fletcher.specs.Plain.{bothReduced, Reduced, Within}
 use Rattle.fletcher.specs.PlainLaws.{both-reduced, reduced-stays, added-more, within-start, within-added, within-fits}
@@ -11,7 +12,7 @@ use Rattle.fletcher.proofs.add_words.Statement.{statement}
 use Rattle.fletcher.proofs.add_words.Tie as tie
 
 abbrev Inv-loop : tie.InvT-loop
-Inv-loop text at words t₀ n₀ t n = (n ≤ words) × Within n t × (sums (bothReduced t) (drop (at + 2 * n) text) ≡ sums t₀ (drop at text))
+Inv-loop text at words t₀ n₀ t n = (n ≤ words) × Within n t × ((e : Edition) → sums e (bothReduced t) (drop (at + 2 * n) text) ≡ sums e t₀ (drop at text))
 
 abbrev μ-loop : tie.MeasureT-loop
 μ-loop text at words t₀ n₀ t n = words - n
@@ -19,7 +20,7 @@ abbrev μ-loop : tie.MeasureT-loop
 loop-holds : tie.Need-loop-holds Inv-loop μ-loop
 loop-holds c =
     let reduced = c .before .pre .0 in
-    (search needs, within-start _ reduced, rw (add-zero, reduced-stays _ reduced))
+    (search needs, within-start _ reduced, λ e. rw (add-zero, reduced-stays _ reduced))
 
 plus-requires : tie.Need-plus-requires Inv-loop μ-loop
 plus-requires c κs = within-fits (omega arith) (within-added (c .word-at .result) (search needs) (c .before .before .loop .inv .1))
@@ -32,7 +33,7 @@ loop-again c =
     rw (c .plus .ensures, next) (
       omega arith,
       within-added (c .before .word-at .result) (search needs) (l .inv .1),
-      rw (c .before .word-at .ensures) (added-more (l .t) _ (at + 2 * l .n) (omega arith) ∙ l .inv .2),
+      λ e. rw (c .before .word-at .ensures) (added-more e (l .t) _ (at + 2 * l .n) (omega arith) ∙ l .inv .2 e),
     )
 
 returns : tie.Need-returns Inv-loop μ-loop

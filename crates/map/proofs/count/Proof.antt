@@ -11,13 +11,13 @@ returns : tie.Need-returns
 unfolding countedOf countOf
 returns c =
     let a = c .before .before .before .before .before .args in
-    sym (ap countedOf (asking-bad (now (a .image)) _ (asked-refused (a .map) (a .kind) _ (c .before .before .before .asked .ensures) (c .before .a .given .1))))
+    sym (ap countedOf (asking-bad (now (a .image)) (a .view) _ (asked-refused (a .map) (a .kind) _ (c .before .before .before .asked .ensures) (c .before .a .given .1))))
 
 returns-2 : tie.Need-returns-2
 unfolding countOf
 returns-2 c =
     let a = c .before .before .before .before .before .before .args in
-    c .count-in .ensures ∙ ap countedOf (asking-told (now (a .image)) _ (asked-told (a .map) (a .kind) _ (c .before .before .before .before .asked .ensures) (c .before .before .a2 .given .1)))
+    c .count-in .ensures ∙ ap countedOf (asking-told (now (a .image)) (a .view) _ (asked-told (a .map) (a .kind) _ (c .before .before .before .before .asked .ensures) (c .before .before .a2 .given .1)))
 
 pub count-spec : {M : Type 1} → statement M
 count-spec =

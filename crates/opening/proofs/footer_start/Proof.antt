@@ -18,9 +18,9 @@ returns c =
 
 -- what is left once the footer names a block
 named : (c : tie.After-said-at) →
-    footerStart (now (c .before .before .before .before .before .before .before .args .image)) ≡
-    kept (endsAt (c .before .before .before .before .before .blocks-in .result))
-    (standsAt (now (c .before .before .before .before .before .before .before .args .image)) (c .before .value .result))
+    let a = c .before .before .before .before .before .before .before .args in
+    footerStart (now (a .image)) (a .edition) ≡
+    kept (endsAt (c .before .before .before .before .before .blocks-in .result)) (standsAt (now (a .image)) (a .edition) (c .before .value .result))
 unfolding footerStart slotOf numberOf same
 named c =
     let c3 = c .before .before .before in
@@ -35,15 +35,15 @@ named c =
 returns-2 : tie.Need-returns-2
 returns-2 c =
     let c2 = c .before .before in
-    rw (named c2, stands-unsaid _ _ (sym (c2 .said-at .ensures) ∙ c .enum-told .given .1))
+    rw (named c2, stands-unsaid _ _ _ (sym (c2 .said-at .ensures) ∙ c .enum-told .given .1))
 
 returns-3 : tie.Need-returns-3
 returns-3 c =
     let c4 = c .before .before .before .before in
     let c6 = c4 .before .before in
     let c11 = c6 .before .before .before .before .before in
-    let image = now (c11 .before .before .args .image) in
-    rw (named c6, stands-footed image _ (sym (c6 .said-at .ensures) ∙ c4 .s .given .1), footed-elsewhere image (c4 .s .given .0 .0) (c11 .blocks-in .result) (c .if2 .left))
+    let a = c11 .before .before .args in
+    rw (named c6, stands-footed (now (a .image)) _ (sym (c6 .said-at .ensures) ∙ c4 .s .given .1) (a .edition), footed-elsewhere (now (a .image)) (a .edition) (c4 .s .given .0 .0) (c11 .blocks-in .result) (c .if2 .left))
 
 returns-4 : tie.Need-returns-4
 returns-4 c =
@@ -51,11 +51,11 @@ returns-4 c =
     let c6 = c2 .before .before .before .before in
     let c8 = c6 .before .before in
     let c13 = c8 .before .before .before .before .before in
-    let image = now (c13 .before .before .args .image) in
+    let a = c13 .before .before .args in
     rw (
       named c8,
-      stands-footed image _ (sym (c8 .said-at .ensures) ∙ c6 .s .given .1),
-      footed-ending image (c6 .s .given .0 .0) (c13 .blocks-in .result) (c2 .if2 .taken),
+      stands-footed (now (a .image)) _ (sym (c8 .said-at .ensures) ∙ c6 .s .given .1) (a .edition),
+      footed-ending (now (a .image)) (a .edition) (c6 .s .given .0 .0) (c13 .blocks-in .result) (c2 .if2 .taken),
       ← c8 .before .before .before .before .footer-line .ensures,
       ← c .before .is-footer .ensures,
       c .if3 .taken,
@@ -67,11 +67,11 @@ returns-5 c =
     let c6 = c2 .before .before .before .before in
     let c8 = c6 .before .before in
     let c13 = c8 .before .before .before .before .before in
-    let image = now (c13 .before .before .args .image) in
+    let a = c13 .before .before .args in
     rw (
       named c8,
-      stands-footed image _ (sym (c8 .said-at .ensures) ∙ c6 .s .given .1),
-      footed-ending image (c6 .s .given .0 .0) (c13 .blocks-in .result) (c2 .if2 .taken),
+      stands-footed (now (a .image)) _ (sym (c8 .said-at .ensures) ∙ c6 .s .given .1) (a .edition),
+      footed-ending (now (a .image)) (a .edition) (c6 .s .given .0 .0) (c13 .blocks-in .result) (c2 .if2 .taken),
       ← c8 .before .before .before .before .footer-line .ensures,
       ← c .before .is-footer .ensures,
       c .if3 .left,

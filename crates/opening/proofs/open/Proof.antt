@@ -17,11 +17,11 @@ returns c =
 
 -- what is left once the size is right
 sized : (c : tie.After-is-good) →
-    opened (now (c .before .before .before .before .before .args .image)) ≡
+    let a = c .before .before .before .before .before .args in
+    opened (now (a .image)) (a .edition) ≡
     cond (c .is-good .result)
-    (newestFrom (now (c .before .before .before .before .before .args .image))
-    (higher (headerStart (now (c .before .before .before .before .before .args .image)) (c .before .header-of .result))
-    (footerStart (now (c .before .before .before .before .before .args .image)))))
+    (newestFrom (now (a .image)) (a .edition)
+    (higher (headerStart (now (a .image)) (a .edition) (c .before .header-of .result)) (footerStart (now (a .image)) (a .edition))))
     (Refused noHeader)
 unfolding opened
 sized c =

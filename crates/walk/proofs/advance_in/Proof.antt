@@ -9,12 +9,12 @@ use Rattle.walk.proofs.advance_in.Tie as tie
 returns : tie.Need-returns
 returns c =
     let a = c .before .before .before .before .before .before .args in
-    c .refused .ensures ∙ after-shut (now (a .image)) (a .id) (a .kind) (a .w) (sym (c .before .before .before .before .«open» .ensures) ∙ ap storeSaid (c .before .before .o .given .1))
+    c .refused .ensures ∙ after-shut (now (a .image)) (a .view) (a .id) (a .kind) (a .w) (sym (c .before .before .before .before .«open» .ensures) ∙ ap storeSaid (c .before .before .o .given .1))
 
 returns-2 : tie.Need-returns-2
 returns-2 c =
     let a = c .before .before .before .before .before .before .before .args in
-    c .step-by .ensures ∙ after-open (now (a .image)) (a .id) (a .kind) (a .w) (sym (c .before .before .before .before .before .«open» .ensures) ∙ ap storeSaid (c .before .before .before .o2 .given .1)) (c .before .advance .ensures)
+    c .step-by .ensures ∙ after-open (now (a .image)) (a .view) (a .id) (a .kind) (a .w) (sym (c .before .before .before .before .before .«open» .ensures) ∙ ap storeSaid (c .before .before .before .o2 .given .1)) (c .before .advance .ensures)
 
 pub advance-in-spec : {M : Type 1} → statement M
 advance-in-spec =

@@ -12,7 +12,7 @@ returns : tie.Need-returns
 returns c =
     let a = c .before .before .before .before .args in
     let alone = c .before .before .before .before .pre .1 in
-    sym (ends-bad (now (a .line)) (a .n) alone (sym (c .enum-told .given .1) ∙ c .before .before .field-at .ensures))
+    sym (ends-bad (a .edition) (now (a .line)) (a .n) alone (sym (c .enum-told .given .1) ∙ c .before .before .field-at .ensures))
 
 sub-same-bytes : tie.Need-sub-same-bytes
 sub-same-bytes c =
@@ -42,7 +42,7 @@ returns-2 c =
     let k = c .before .before .before .before .before .before .before in
     let p = part-placed (sym (k .p .given .1) ∙ k .before .before .field-at .ensures) in
     let named = sym (c .before .before .before .same-bytes .ensures) ∙ c .before .before .if1 .taken in
-    rw (ends-sum (now (a .line)) (a .n) alone p named, ← c .sum-text .ensures)
+    rw (ends-sum (a .edition) (now (a .line)) (a .n) alone p named, ← c .sum-text .ensures)
 
 returns-3 : tie.Need-returns-3
 returns-3 c =
@@ -50,7 +50,7 @@ returns-3 c =
     let alone = c .before .before .before .before .before .before .before .before .before .pre .1 in
     let k = c .before .before .before .before .before in
     let p = part-placed (sym (k .p .given .1) ∙ k .before .before .field-at .ensures) in
-    sym (ends-other (now (a .line)) (a .n) alone p (sym (c .before .same-bytes .ensures) ∙ c .if1 .left))
+    sym (ends-other (a .edition) (now (a .line)) (a .n) alone p (sym (c .before .same-bytes .ensures) ∙ c .if1 .left))
 
 pub ends-right-spec : {M : Type 1} → statement M
 ends-right-spec =

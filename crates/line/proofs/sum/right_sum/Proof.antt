@@ -14,10 +14,10 @@ use Rattle.line.proofs.sum.right_sum.Statement.{statement}
 use Rattle.line.proofs.sum.right_sum.Tie as tie
 
 abbrev Inv-loop : tie.InvT-loop
-Inv-loop line n₀ n = (n ≤ length line) × (every (isNot comma) (drop n line) ≡ true) × (lastComma n line ≡ lastComma (length line) line)
+Inv-loop edition line n₀ n = (n ≤ length line) × (every (isNot comma) (drop n line) ≡ true) × (lastComma n line ≡ lastComma (length line) line)
 
 abbrev μ-loop : tie.MeasureT-loop
-μ-loop line n₀ n = n
+μ-loop edition line n₀ n = n
 
 loop-holds : tie.Need-loop-holds Inv-loop μ-loop
 loop-holds c =
@@ -35,7 +35,7 @@ returns c =
     let l = c .before .before .before .before .loop in
     let line = now (c .before .before .before .before .before .before .args .line) in
     let last = sym (l .inv .2) ∙ last-here line (l .n) (omega arith) (c .before .if1 .taken) in
-    c .ends-right .ensures ∙ sym (right-at line (l .n - 1) last)
+    c .ends-right .ensures ∙ sym (right-at line (l .n - 1) (c .before .before .before .before .before .before .args .edition) last)
 
 loop-again : tie.Need-loop-again Inv-loop μ-loop
 loop-again c =
@@ -50,7 +50,8 @@ returns-2 : tie.Need-returns-2 Inv-loop μ-loop
 returns-2 c =
     let l = c .before .loop in
     let k : l .n ≡ 0 = omega arith in
-    sym (right-none (now (c .before .before .before .args .line)) (rw k at (l .inv .2)))
+    let a = c .before .before .before .args in
+    sym (right-none (a .edition) (now (a .line)) (rw k at (l .inv .2)))
 
 pub right-sum-spec : {M : Type 1} → statement M
 right-sum-spec =

@@ -14,12 +14,12 @@ returns c =
     let e = c .before .before .before .before .before .lookup .ensures in
     let f = c .before .before .before .v2 .given .1 in
     let h = c .before .if1 .taken in
-    (copy-refuses (now (a .image)) (a .map) (a .kind) (now (a .key)) room e f h (c .new .ensures), copy-refused (now (a .image)) (a .map) (a .kind) (now (a .key)) room e f h (now (a .area)))
+    (copy-refuses (now (a .image)) (a .view) (a .map) (a .kind) (now (a .key)) room e f h (c .new .ensures), copy-refused (now (a .image)) (a .view) (a .map) (a .kind) (now (a .key)) room e f h (now (a .area)))
 
 put-requires : tie.Need-put-requires
 put-requires c κs =
     let a = c .before .before .before .before .before .before .before .before .before .args in
-    (copy-inside (now (a .image)) (a .map) (a .kind) (now (a .key)) 0 (c .before .before .before .before .before .lookup .ensures) (c .before .before .before .v2 .given .1), omega arith)
+    (copy-inside (now (a .image)) (a .view) (a .map) (a .kind) (now (a .key)) 0 (c .before .before .before .before .before .lookup .ensures) (c .before .before .before .v2 .given .1), omega arith)
 
 returns-2 : tie.Need-returns-2
 returns-2 c =
@@ -27,7 +27,7 @@ returns-2 c =
     let room = length (now (a .area)) in
     let e = c .before .before .before .lookup .ensures in
     let f = c .before .v .given .1 in
-    (copy-none (now (a .image)) (a .map) (a .kind) (now (a .key)) room e f tt, copy-kept (now (a .image)) (a .map) (a .kind) (now (a .key)) room e f tt (now (a .area)))
+    (copy-none (now (a .image)) (a .view) (a .map) (a .kind) (now (a .key)) room e f tt, copy-kept (now (a .image)) (a .view) (a .map) (a .kind) (now (a .key)) room e f tt (now (a .area)))
 
 returns-3 : tie.Need-returns-3
 returns-3 c =
@@ -35,7 +35,7 @@ returns-3 c =
     let room = length (now (a .area)) in
     let e = c .before .before .lookup .ensures in
     let f = c .enum-told .given .1 in
-    (copy-none (now (a .image)) (a .map) (a .kind) (now (a .key)) room e f tt, copy-kept (now (a .image)) (a .map) (a .kind) (now (a .key)) room e f tt (now (a .area)))
+    (copy-none (now (a .image)) (a .view) (a .map) (a .kind) (now (a .key)) room e f tt, copy-kept (now (a .image)) (a .view) (a .map) (a .kind) (now (a .key)) room e f tt (now (a .area)))
 
 returns-4 : tie.Need-returns-4
 returns-4 c =
@@ -43,7 +43,7 @@ returns-4 c =
     let room = length (now (a .area)) in
     let e = c .before .before .before .before .before .before .before .before .lookup .ensures in
     let f = c .before .before .before .before .before .before .v2 .given .1 in
-    (copy-answers (now (a .image)) (a .map) (a .kind) (now (a .key)) room e f (omega arith), c .before .before .put .ensures ∙ copy-written (now (a .image)) (a .map) (a .kind) (now (a .key)) room e f (omega arith) (now (a .area)))
+    (copy-answers (now (a .image)) (a .view) (a .map) (a .kind) (now (a .key)) room e f (omega arith), c .before .before .put .ensures ∙ copy-written (now (a .image)) (a .view) (a .map) (a .kind) (now (a .key)) room e f (omega arith) (now (a .area)))
 
 pub copy-spec : {M : Type 1} → statement M
 copy-spec =

@@ -9,13 +9,13 @@ use Rattle.map.proofs.entry.index_in.Tie as tie
 
 returns : tie.Need-returns
 unfolding itemOf
-returns c = sym (ap itemOf (asking-shut (now (c .before .before .before .before .before .args .image)) _ refl (sym (c .before .before .before .«open» .ensures) ∙ ap storeSaid (c .before .o .given .1))))
+returns c = sym (ap itemOf (asking-shut (now (c .before .before .before .before .before .args .image)) (c .before .before .before .before .before .args .view) _ refl (sym (c .before .before .before .«open» .ensures) ∙ ap storeSaid (c .before .o .given .1))))
 
 returns-2 : tie.Need-returns-2
 returns-2 c =
     let a = c .before .before .before .before .before .before .before .args in
     c .item-by .ensures ∙ ap (itemBy (now (a .image)) (a .kind)) (c .before .index .ensures) ∙ item-fetched (now (a .image)) _ (a .id) (a .kind) (a .index)
-    ∙ sym (ap itemOf (asking-open (now (a .image)) _ refl (sym (c .before .before .before .before .before .«open» .ensures) ∙ ap storeSaid (c .before .before .before .o2 .given .1))))
+    ∙ sym (ap itemOf (asking-open (now (a .image)) (a .view) _ refl (sym (c .before .before .before .before .before .«open» .ensures) ∙ ap storeSaid (c .before .before .before .o2 .given .1))))
 
 pub index-in-spec : {M : Type 1} → statement M
 index-in-spec =

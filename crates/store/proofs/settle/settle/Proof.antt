@@ -7,10 +7,10 @@ use Rattle.store.proofs.settle.settle.Statement.{statement}
 use Rattle.store.proofs.settle.settle.Tie as tie
 
 add-remember : tie.Need-add-remember
-add-remember c = omega (arith, location-need _ _ _ (sym (c .before .before .before .before .location-by .ensures) ∙ c .before .before .l2 .given .1), c .before .before .before .before .before .before .before .pre)
+add-remember c = omega (arith, location-need _ _ _ _ (sym (c .before .before .before .before .location-by .ensures) ∙ c .before .before .l2 .given .1), c .before .before .before .before .before .before .before .pre)
 
-add-t13 : tie.Need-add-t13
-add-t13 c = omega (arith, location-need _ _ _ (sym (c .before .before .before .before .before .before .before .location-by .ensures) ∙ c .before .before .before .before .before .l2 .given .1), c .before .before .before .before .before .before .before .before .before .before .pre)
+add-t14 : tie.Need-add-t14
+add-t14 c = omega (arith, location-need _ _ _ _ (sym (c .before .before .before .before .before .before .before .location-by .ensures) ∙ c .before .before .before .before .before .l2 .given .1), c .before .before .before .before .before .before .before .before .before .before .pre)
 
 returns : tie.Need-returns
 unfolding settledLocation settledWords
@@ -29,7 +29,7 @@ settle-spec =
     (λ c. search needs)
     add-remember
     (λ c κs. search needs)
-    add-t13
+    add-t14
     returns
     (λ c. search needs)
     returns-2)
