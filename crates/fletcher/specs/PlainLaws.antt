@@ -4,7 +4,7 @@
 --   within-360     from reduced sums both stay below 2^32 within 360 words
 --   most-reached   361 words can take the second sum past it; odd-reached: 360 and an odd byte
 use Prim.Native.Nat.{ℕ, zero, suc, _+_, _*_, _-_, _%_, _≤_, _<_}
-use mathlib.Core.Path.{_≡_, refl, subst}
+use mathlib.Core.Path.{_≡_, refl, sym, _∙_, subst}
 use mathlib.Core.List.{List, [], _∷_}
 use mathlib.Core.Bool.{Bool, true, false, cond}
 use native.Mathlib.Numerals.{add-one}
@@ -16,7 +16,7 @@ use Rattle.fletcher.specs.declared.Edition.{Edition}
 use Rattle.fletcher.specs.declared.Edition.the-variants.{First, Second}
 use Rattle.fletcher.specs.declared.Sums.{Sums}
 use Rattle.fletcher.specs.Fletcher.{reduced, start, addWord, sums}
-use Rattle.fletcher.specs.Laws.{sums-more}
+use Rattle.fletcher.specs.Laws.{sums-more, sums-odd}
 use Rattle.fletcher.specs.Plain.{added, plain, wordsIn, bothReduced, InRange, Reduced, Fits, most, Within}
 
 -- ## Reducing
@@ -71,6 +71,11 @@ pub added-more : (e : Edition) (t : Sums) (s : List ℕ) (i : ℕ) → i + 1 < l
     → sums e (bothReduced (added t (getD s i 0 * 256 + getD s (i + 1) 0))) (drop (i + 2) s) ≡ sums e (bothReduced t) (drop i s)
 added-more e t s i h = rw (added-rule, sums-more e (bothReduced t) s i)
 
+-- an odd last byte
+pub added-odd : (t : Sums) (s : List ℕ) (i : ℕ) → i + 1 ≡ length s
+    → bothReduced (added t (getD s i 0 * 256)) ≡ sums Second (bothReduced t) (drop i s)
+added-odd t s i h = added-rule t (getD s i 0 * 256) ∙ sym (sums-odd Second (bothReduced t) s i h)
+
 -- ## "from reduced sums both stay below 2^32 within 360 words"
 
 pub within-start : (t : Sums) → Reduced t → Within 0 t
@@ -105,7 +110,7 @@ pub within-360 : (e : Edition) (t : Sums) (s : List ℕ) → ((i : ℕ) → getD
 within-360 e t s bytes l h = plain-fits e 0 t s bytes (omega arith) (within-start t h)
 
 -- 361 words ff ff take the second sum past 2^32, which is 4294967296: so 360 is the most that may be added before it is reduced.
--- An odd last byte ff after 360 of them does so too: it is added to sums that are reduced.
+-- An odd last byte ff after 360 of them does so too: where it is added, fewer words went before it.
 pub most-reached : plain First start (replicate 722 255) .second ≡ 4305846105
 unfolding plain start added
 most-reached = refl

@@ -3,7 +3,7 @@ ghost use Prim.Native.Nat.{_+_, _*_, _≤_, _<_};
 ghost use mathlib.Core.Path.{_≡_};
 ghost use lib.ListN.{length, getD, drop};
 ghost use Rattle.fletcher.specs.Fletcher.{reduced, start, addWord, sums, fletcherOf};
-ghost use Rattle.fletcher.specs.Plain.{added, bothReduced, Reduced, Fits};
+ghost use Rattle.fletcher.specs.Plain.{added, bothReduced, Reduced, Fits, Within};
 
 // Reduced sums stay below 2^32 while so many words are added; one more can take the second past it.
 const MOST_WORDS: usize = 360;
@@ -77,10 +77,10 @@ fn word_at(text: &[u8], i: usize) -> u16
     text[i] as u16 * 256 + text[i + 1] as u16
 }
 
-// The sums `t` after so many words more, those of `text` from the place `at` on; reduced once, at the end.
+// The sums `t` after so many words more, those of `text` from the place `at` on; not reduced.
 fn add_words(t: Sums, text: &[u8], at: usize, words: usize) -> Sums
     requires { ⌜ Reduced t × (words ≤ 360) × (at + 2 * words ≤ length (now text)) ⌝ }
-    ensures { λ r. ⌜ Reduced r × ((e : Edition) → sums e r (drop (at + 2 * words) (now (text .entry))) ≡ sums e t (drop at (now (text .entry)))) ⌝ }
+    ensures { λ r. ⌜ Within words r × ((e : Edition) → sums e (bothReduced r) (drop (at + 2 * words) (now (text .entry))) ≡ sums e t (drop at (now (text .entry)))) ⌝ }
 {
     let mut t = t;
     let mut n = 0;
@@ -88,21 +88,24 @@ fn add_words(t: Sums, text: &[u8], at: usize, words: usize) -> Sums
         t = t.plus(word_at(text, at + 2 * n));
         n += 1;
     }
-    t.reduced()
+    t
 }
 
-// The sums `t`, which are reduced, after an odd last byte, if it stands at the place `at`. Added with
-// 360 words before it, it could take the second sum past 2^32.
-fn odd_byte(edition: Edition, t: Sums, text: &[u8], at: usize) -> Sums
-    requires { ⌜ length (now text) ≤ at + 1 ⌝ }
+// The sums `t` after all that is left of `text` from the place `at` on. These are fewer than 360 words,
+// so that there is room for an odd last byte as one word more before the sums are reduced.
+fn add_rest(edition: Edition, t: Sums, text: &[u8], at: usize) -> Sums
+    requires { ⌜ Reduced t × (at ≤ length (now text)) × (length (now text) < at + 720) ⌝ }
     ensures { λ r. ⌜ r ≡ sums edition t (drop at (now (text .entry))) ⌝ }
 {
-    if text.len() <= at {
-        return t;
+    let words = (text.len() - at) / 2;
+    let t = add_words(t, text, at, words);
+    let odd = at + 2 * words;
+    if text.len() <= odd {
+        return t.reduced();
     }
     match edition {
-        Edition::First => t,
-        Edition::Second => t.word(text[at] as u16 * 256),
+        Edition::First => t.reduced(),
+        Edition::Second => t.plus(text[odd] as u16 * 256).reduced(),
     }
 }
 
@@ -113,11 +116,10 @@ pub fn sum_words(edition: Edition, text: &[u8]) -> Sums
     let mut t = Sums::new();
     let mut i = 0;
     while 2 * MOST_WORDS <= text.len() - i {
-        t = add_words(t, text, i, MOST_WORDS);
+        t = add_words(t, text, i, MOST_WORDS).reduced();
         i += 2 * MOST_WORDS;
     }
-    let words = (text.len() - i) / 2;
-    odd_byte(edition, add_words(t, text, i, words), text, i + 2 * words)
+    add_rest(edition, t, text, i)
 }
 
 // The value that the field `fletcher` has over `text`.

@@ -1,13 +1,13 @@
 use borrow.Author.Needs.{needs}
 use Prim.Native.Nat.{_≤_, _+_, _*_, _-_}
-use mathlib.Core.Path.{_≡_, sym, subst, _∙_}
+use mathlib.Core.Path.{_≡_, _∙_}
 use native.Mathlib.Nat.{add-zero}
 use native.Mathlib.Omega.{arith}
 use lib.ListN.{drop}
 use Rattle.fletcher.specs.declared.Edition.{Edition}
 use Rattle.fletcher.specs.Fletcher.{sums}
-use Rattle.fletcher.specs.Plain.{bothReduced, Reduced, Within}
-use Rattle.fletcher.specs.PlainLaws.{both-reduced, reduced-stays, added-more, within-start, within-added, within-fits}
+use Rattle.fletcher.specs.Plain.{bothReduced, Within}
+use Rattle.fletcher.specs.PlainLaws.{reduced-stays, added-more, within-start, within-added, within-fits}
 use Rattle.fletcher.proofs.add_words.Statement.{statement}
 use Rattle.fletcher.proofs.add_words.Tie as tie
 
@@ -38,9 +38,9 @@ loop-again c =
 
 returns : tie.Need-returns Inv-loop μ-loop
 returns c =
-    let l = c .before .before .loop in
-    let all : c .before .before .before .before .args .words ≡ l .n = omega arith in
-    (subst Reduced (sym (c .reduced .ensures)) (both-reduced (l .t)), rw (c .reduced .ensures, all) (l .inv .2))
+    let l = c .before .loop in
+    let all : c .before .before .before .args .words ≡ l .n = omega arith in
+    rw all (l .inv .1, l .inv .2)
 
 pub add-words-spec : {M : Type 1} → statement M
 add-words-spec =
@@ -56,5 +56,4 @@ add-words-spec =
     (λ c. search needs)
     (λ c. search needs)
     loop-again
-    (λ c κs. search needs)
     returns)

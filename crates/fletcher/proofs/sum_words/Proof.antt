@@ -6,7 +6,7 @@ use lib.ListN.{length, drop}
 use Rattle.fletcher.specs.declared.Edition.{Edition}
 use Rattle.fletcher.specs.Fletcher.{sums, start}
 use Rattle.fletcher.specs.Plain.{Reduced}
-use Rattle.fletcher.specs.PlainLaws.{start-reduced}
+use Rattle.fletcher.specs.PlainLaws.{both-reduced, start-reduced}
 use Rattle.fletcher.proofs.sum_words.Statement.{statement}
 use Rattle.fletcher.proofs.sum_words.Tie as tie
 
@@ -23,18 +23,15 @@ add-words-requires : tie.Need-add-words-requires Inv-loop μ-loop
 add-words-requires c κs = (c .before .loop .inv .1, omega arith, omega arith)
 
 loop-again : tie.Need-loop-again Inv-loop μ-loop
-loop-again c = (omega arith, c .add-words .ensures .0, λ e. c .add-words .ensures .1 e ∙ c .before .before .loop .inv .2 e)
+loop-again c =
+    let w = c .before .add-words in
+    rw (c .reduced .ensures) (omega arith, both-reduced (w .result), λ e. w .ensures .1 e ∙ c .before .before .before .loop .inv .2 e)
 
-add-words-requires-2 : tie.Need-add-words-requires-2 Inv-loop μ-loop
-add-words-requires-2 c κs = (c .before .loop .inv .1, omega arith, omega arith)
-
-odd-byte-requires : tie.Need-odd-byte-requires Inv-loop μ-loop
-odd-byte-requires c κs = omega arith
+add-rest-requires : tie.Need-add-rest-requires Inv-loop μ-loop
+add-rest-requires c κs = (c .before .loop .inv .1, omega arith, omega arith)
 
 returns : tie.Need-returns Inv-loop μ-loop
-returns c =
-    let edition = c .before .before .before .before .before .before .args .edition in
-    c .odd-byte .ensures ∙ (c .before .add-words2 .ensures .1 edition ∙ c .before .before .before .loop .inv .2 edition)
+returns c = c .add-rest .ensures ∙ c .before .before .loop .inv .2 (c .before .before .before .before .before .args .edition)
 
 pub sum-words-spec : {M : Type 1} → statement M
 sum-words-spec =
@@ -47,13 +44,10 @@ sum-words-spec =
     (λ c. search needs)
     (λ c. search needs)
     add-words-requires
+    (λ c κs. search needs)
     (λ c. search needs)
     (λ c. search needs)
     (λ c. search needs)
     loop-again
-    (λ c. search needs)
-    add-words-requires-2
-    (λ c. omega arith)
-    (λ c. omega arith)
-    odd-byte-requires
+    add-rest-requires
     returns)
