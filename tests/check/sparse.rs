@@ -11,6 +11,7 @@ use crate::build::tree::{Entries, MapPlan, Placed};
 use crate::family::questions::*;
 use crate::family::standard::{chunk_entry, numbered, METADATA_PLAN};
 use crate::model::ask::View;
+use crate::model::fletcher::Edition;
 use crate::model::image::BLOCK;
 use crate::subject::Judge;
 
@@ -23,8 +24,10 @@ const FORCES_PLAN: MapPlan = MapPlan { id: 1, kind: 0 };
 const LONG_CHUNK: u64 = (1 << 20) + 8;
 
 pub fn check(judge: &mut Judge) -> io::Result<()> {
-    far_chunks(judge, true)?;
-    far_chunks(judge, false)?;
+    for edition in [Edition::First, Edition::Second] {
+        far_chunks(judge, edition, true)?;
+        far_chunks(judge, edition, false)?;
+    }
     too_many_blocks(judge)?;
     long_chunk(judge)
 }
@@ -39,7 +42,8 @@ fn mapped(plan: &Plan) -> io::Result<Mapped> {
 
 /// A leaf in each chunk, the roots in the last one. The newest is found by its footer and header,
 /// or along the chain from the first chunk.
-fn far_chunks(judge: &mut Judge, named: bool) -> io::Result<()> {
+fn far_chunks(judge: &mut Judge, edition: Edition, named: bool) -> io::Result<()> {
+    let view = View::of(edition);
     let mut plan = Plan::new();
     for (i, &block) in BLOCKS.iter().enumerate() {
         plan.blocks = block;
@@ -56,19 +60,15 @@ fn far_chunks(judge: &mut Judge, named: bool) -> io::Result<()> {
         (0..BLOCKS.len()).map(|i| FORCES_PLAN.leaf(&mut plan, i, &numbered(&keys[i]))).collect();
     let root = FORCES_PLAN.inner(&mut plan, newest, &leaves).page;
     add_metadata(&mut plan, newest, root);
+    plan.set_edition(edition);
     let image = mapped(&plan)?;
-    let opened = judge.image("far chunks", &image, View::FIRST).to_string();
+    let opened = judge.image("far chunks", &image, view).to_string();
     let due = format!("chunk 6 block {} blocks 1 version 6", MOST_BLOCKS - 1);
     judge.claim(opened == due, || format!("far chunks: {opened}"));
     let entries = numbered(&keys.concat());
-    sweep(
-        judge,
-        &image,
-        &Expected { view: View::FIRST, map: FORCES, entries: &entries },
-        "far chunks",
-    );
-    every_call().iter().for_each(|question| {
-        judge.ask(&image, question);
+    sweep(judge, &image, &Expected { view, map: FORCES, entries: &entries }, "far chunks");
+    every_call().into_iter().for_each(|question| {
+        judge.ask(&image, &question.under(view));
     });
     Ok(())
 }
