@@ -1,4 +1,6 @@
 // The Fletcher sums of a text, 16-bit words with the high byte first, in two editions.
+#![tactic(auto)]
+
 ghost use Rattle.std.specs.Prelude.{◌+◌, ◌*◌, ◌≤◌, ◌<◌, ◌≡◌, length, get_or, drop};
 ghost use Rattle.fletcher.specs.Fletcher.{reduced, start, add_word, sums, fletcher_of};
 ghost use Rattle.fletcher.specs.Plain.{added, both_reduced, Reduced, Fits, Within};

@@ -1,4 +1,6 @@
 // Numbers as the file writes them: hexadecimal digits, big-endian bytes, variable-size numbers.
+#![tactic(auto)]
+
 mod big_endian;
 mod hex;
 mod var;

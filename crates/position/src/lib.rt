@@ -1,4 +1,6 @@
 // A page's position: 26 bits chunk id, 32 bits offset in the chunk, 5 bits length code, 1 bit type.
+#![tactic(auto)]
+
 ghost use Rattle.std.specs.Prelude.{◌≡◌};
 ghost use Rattle.position.specs.Position.{chunk_of, offset_of, code_of, type_of, is_empty, made_of, bound_of, holds_length, folded, check_of};
 

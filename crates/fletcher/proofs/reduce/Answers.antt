@@ -1,0 +1,11 @@
+use borrow.Author.Tests.{eq-eqb, ne_eqb}
+use Rattle.fletcher.specs.Fletcher.{reduced}
+use Rattle.fletcher.proofs.reduce.Goals as goal
+
+pub returns-then-m-eq0 : goal.returns-then-m-eq0
+unfolding reduced
+returns-then-m-eq0 c = simp (eq-eqb _ _ c.if-m-eq0.true)
+
+pub returns-else-m-eq0 : goal.returns-else-m-eq0
+unfolding reduced
+returns-else-m-eq0 c = simp (ne_eqb _ _ c.if-m-eq0.false)
