@@ -12,7 +12,7 @@ use position::Position;
 
 // A chunk that stands. `block` and `len` count blocks; `first` is the byte of the chunk at which its
 // pages may begin.
-#[derive(Drop)]
+#[derive(Clone, Copy)]
 pub struct Chunk {
     pub id: u32,
     pub block: u32,
@@ -23,7 +23,7 @@ pub struct Chunk {
     pub version: u64,
 }
 
-#[derive(Drop)]
+#[derive(Clone, Copy)]
 pub enum Standing {
     Stands(Chunk),
     Nothing,

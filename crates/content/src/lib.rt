@@ -19,28 +19,28 @@ use position::Position;
 
 // A key against a given one: not greater, and whether it is equal, with the place after it; or
 // greater, or no key.
-#[derive(Drop)]
+#[derive(Clone, Copy)]
 pub enum Probe {
     UpTo { next: usize, same: bool },
     Stop,
 }
 
 // A value by place and length.
-#[derive(Drop)]
+#[derive(Clone, Copy)]
 pub enum Found {
     At { at: usize, len: usize },
     Absent,
 }
 
 // A child by its number, and what is left of the index under it.
-#[derive(Drop)]
+#[derive(Clone, Copy)]
 pub enum Picked {
     Child { number: u32, rest: u64 },
     Over,
 }
 
 // An entry: its key and its value by place and length.
-#[derive(Drop)]
+#[derive(Clone, Copy)]
 pub enum Nth {
     Entry {
         key: usize,

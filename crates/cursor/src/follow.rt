@@ -10,7 +10,7 @@ use refusal::Refusal;
 
 // What follows a number at the page that it is used at: the entry after it, no entry more, the child
 // with no other after it, the child and the one after it, or a refusal.
-#[derive(Drop)]
+#[derive(Clone, Copy)]
 pub enum After {
     Entry {
         key: usize,
@@ -29,7 +29,7 @@ pub enum After {
 
 // Where the way down by the numbers ends: at the entry that is next, whose number is the last, or at
 // the child that is next at a level and has a number there, or with no entry left.
-#[derive(Drop)]
+#[derive(Clone, Copy)]
 pub enum Down {
     Entry {
         level: u32,
@@ -49,7 +49,7 @@ pub enum Down {
 }
 
 // The leftmost entry under a page, and the depth of its leaf.
-#[derive(Drop)]
+#[derive(Clone, Copy)]
 pub enum Leftmost {
     Entry {
         depth: u32,

@@ -18,7 +18,7 @@ pub struct Walk {
     pub last: u32,
 }
 
-#[derive(Drop)]
+#[derive(Clone, Copy)]
 pub enum Yield {
     Entry {
         key: usize,

@@ -1,5 +1,7 @@
 // The items of a page: words of 8 bytes, text keys, values and recorded counts, read one at a time
 // from a cursor. `s` is the image up to the page's end.
+#![tactic(auto)]
+
 ghost use Rattle.std.specs.Prelude.{◌≡◌, get_or};
 ghost use Rattle.std.proofs.Math.ListN.{get_elem?};
 ghost use Rattle.item.specs.Step.{up_to};
@@ -9,7 +11,7 @@ use key::{Kind, Sized};
 use numeral::Numeral;
 
 // How an item is written: 8 bytes; a text key; a length and bytes.
-#[derive(Drop)]
+#[derive(Clone, Copy)]
 pub enum Form {
     Word,
     Text,
@@ -17,21 +19,21 @@ pub enum Form {
 }
 
 // The place after some items.
-#[derive(Drop)]
+#[derive(Clone, Copy)]
 pub enum Skip {
     Past(usize),
     Stuck,
 }
 
 // An item by place and length.
-#[derive(Drop)]
+#[derive(Clone, Copy)]
 pub enum Numbered {
     At { at: usize, len: usize },
     Out,
 }
 
 // The sum of some recorded counts, and the place after them.
-#[derive(Drop)]
+#[derive(Clone, Copy)]
 pub enum Counted {
     Sum { total: u64, next: usize },
     Stuck,

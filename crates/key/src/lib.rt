@@ -1,4 +1,6 @@
 // Keys of the two kinds: reading one at a place, judging one that is given, comparing two.
+#![tactic(auto)]
+
 mod sized;
 mod texts;
 
@@ -13,7 +15,7 @@ use numeral::be64;
 use order::Order;
 pub use sized::{Sized, sized_at};
 
-#[derive(Drop)]
+#[derive(Clone, Copy)]
 pub enum Kind {
     Number,
     Text,

@@ -5,7 +5,7 @@ ghost use Rattle.key.specs.Sized.{sized_at};
 use numeral::Numeral;
 
 // Where the bytes stand, how many they are, and the place after them.
-#[derive(Drop)]
+#[derive(Clone, Copy)]
 pub enum Sized {
     At { at: usize, len: usize, next: usize },
     Bad,

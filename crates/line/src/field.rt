@@ -5,7 +5,7 @@ ghost use Rattle.line.specs.Field.{part_at};
 use numeral::Numeral;
 
 // A field by places of its line: where its colon stands, its value, and where it ends.
-#[derive(Drop)]
+#[derive(Clone, Copy)]
 pub enum Part {
     Field {
         colon: usize,

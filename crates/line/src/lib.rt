@@ -11,7 +11,7 @@ pub use read::{Fields, read_fields};
 pub use sum::right_sum;
 
 // The line of an area: its length, and the place of the newline after it.
-#[derive(Drop)]
+#[derive(Clone, Copy)]
 pub enum Line {
     At { len: usize, newline: usize },
     Nothing,

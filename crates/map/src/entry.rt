@@ -11,7 +11,7 @@ use refusal::Refusal;
 use store::Fetched;
 use viewing::Viewed;
 
-#[derive(Drop)]
+#[derive(Clone, Copy)]
 pub enum Item {
     Number {
         key: i64,

@@ -20,7 +20,7 @@ use store::Counted;
 use viewing::Viewed;
 
 // A map that may be asked for.
-#[derive(Drop)]
+#[derive(Clone, Copy)]
 pub enum Target {
     Map { id: u32, kind: Kind },
     Refused(Refusal),

@@ -10,7 +10,7 @@ use page::Place;
 // As many halvings as any array needs.
 const HALVINGS: u32 = 64;
 
-#[derive(Drop)]
+#[derive(Clone, Copy)]
 pub enum Recalled {
     At { place: Place, need: u32 },
     Free(usize),

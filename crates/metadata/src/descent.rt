@@ -12,7 +12,7 @@ use position::Position;
 use refusal::Refusal;
 
 // One page of a descent: the child to go on at, or what a leaf or a refusal answers.
-#[derive(Drop)]
+#[derive(Clone, Copy)]
 pub enum Step {
     Child(Position),
     Found { at: usize, len: usize },
@@ -21,7 +21,7 @@ pub enum Step {
 }
 
 // A descent after one page more: the position to go on at, or the answer.
-#[derive(Drop)]
+#[derive(Clone, Copy)]
 pub enum Advance {
     To { position: Position, need: u32 },
     Done(Answer),

@@ -17,40 +17,40 @@ use position::Position;
 use refusal::Refusal;
 
 // Where a chunk is, and the questions that locating it takes; or the refusal.
-#[derive(Drop)]
+#[derive(Clone, Copy)]
 pub enum Location {
     At { place: Place, need: u32 },
     Refused(Refusal),
 }
 
 // What a lookup found: a value by place and length, with the questions that the lookup takes.
-#[derive(Drop)]
+#[derive(Clone, Copy)]
 pub enum Answer {
     Found { at: usize, len: usize, need: u32 },
     Absent { need: u32 },
     Refused(Refusal),
 }
 
-#[derive(Drop)]
+#[derive(Clone, Copy)]
 pub enum Located {
     At(Place),
     Refused(Refusal),
 }
 
-#[derive(Drop)]
+#[derive(Clone, Copy)]
 pub enum Id {
     Is(u32),
     Refused(Refusal),
 }
 
-#[derive(Drop)]
+#[derive(Clone, Copy)]
 pub enum Root {
     At(Position),
     Refused(Refusal),
 }
 
 // A value by place and length.
-#[derive(Drop)]
+#[derive(Clone, Copy)]
 pub enum Value {
     At { at: usize, len: usize },
     Absent,

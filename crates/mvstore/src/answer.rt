@@ -13,7 +13,7 @@ use walk::Next;
 
 // What opening answers: the newest chunk, its first block and how many it has, and its version.
 #[repr(C)]
-#[derive(Drop)]
+#[derive(Clone, Copy)]
 pub struct Newest {
     pub refusal: u32,
     pub chunk: u32,
@@ -24,7 +24,7 @@ pub struct Newest {
 
 // What lookup and copy answer: `found` is 1 for a value and 0 for Absent.
 #[repr(C)]
-#[derive(Drop)]
+#[derive(Clone, Copy)]
 pub struct Value {
     pub refusal: u32,
     pub found: u32,
@@ -34,7 +34,7 @@ pub struct Value {
 
 // What index answers: a number key as `number`, a text key by place and length; then the value.
 #[repr(C)]
-#[derive(Drop)]
+#[derive(Clone, Copy)]
 pub struct Entry {
     pub refusal: u32,
     pub number: i64,
@@ -45,14 +45,14 @@ pub struct Entry {
 }
 
 #[repr(C)]
-#[derive(Drop)]
+#[derive(Clone, Copy)]
 pub struct Count {
     pub refusal: u32,
     pub count: u64,
 }
 
 #[repr(C)]
-#[derive(Drop)]
+#[derive(Clone, Copy)]
 pub struct Id {
     pub refusal: u32,
     pub id: u64,
@@ -74,7 +74,7 @@ pub struct Step {
 }
 
 #[repr(C)]
-#[derive(Drop)]
+#[derive(Clone, Copy)]
 pub struct Report {
     pub refusal: u32,
     pub depth: u32,

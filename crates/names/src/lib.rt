@@ -2,6 +2,8 @@
 // in a tree, where a name meets those only that share its way down by its letters' bits, at most 97 of
 // them. A tree has room for some of the names; those after them are looked for in it, and then have a tree
 // of their own.
+#![tactic(auto)]
+
 mod tree;
 
 ghost use Rattle.std.specs.Prelude.{◌≤◌, ◌≡◌, length};
@@ -11,7 +13,7 @@ ghost use Rattle.names.specs.Tree.{name_end, parts_from, clear, is_in, stopped_b
 use tree::{Search, grow, is_in, seek};
 
 // What becomes of a tree: whether the names are distinct, or it has no room for the name at `next`.
-#[derive(Drop)]
+#[derive(Clone, Copy)]
 enum Filled {
     Distinct(bool),
     Full { next: usize, used: usize },

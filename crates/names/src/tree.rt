@@ -6,7 +6,7 @@ ghost use Rattle.text.specs.Text.{every, is_letter, same};
 ghost use Rattle.names.specs.Tree.{bit_of, name_at, sought_in, is_in};
 
 // Where a name's way down ends: at a node of this name, at a free slot, or nowhere.
-#[derive(Drop)]
+#[derive(Clone, Copy)]
 pub enum Search {
     Met,
     Free(usize),

@@ -5,7 +5,7 @@ ghost use Rattle.numeral.specs.Hex.{digit_of, hex_of, hex_run_at, digit_byte, Wr
 use super::Numeral;
 
 // What a text is as a number.
-#[derive(Drop)]
+#[derive(Clone, Copy)]
 pub enum Number {
     Value(u64),
     Bad,

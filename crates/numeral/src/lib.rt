@@ -10,7 +10,7 @@ pub use hex::{Digits, Number, hex_at, read_hex, write_hex};
 pub use var::read_var;
 
 // A number that was read at a place, and the place after it.
-#[derive(Drop)]
+#[derive(Clone, Copy)]
 pub enum Numeral {
     Read { value: u64, next: usize },
     Bad,

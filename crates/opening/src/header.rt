@@ -7,7 +7,7 @@ use fletcher::Edition;
 use line::Fields;
 
 // What a good file header copy says of the newest chunk.
-#[derive(Drop)]
+#[derive(Clone, Copy)]
 pub enum Copy {
     Names {
         block: u64,

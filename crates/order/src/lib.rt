@@ -1,5 +1,5 @@
 // The three answers of a comparison. What an order is, and which orders there are, is in specs/.
-#[derive(Drop)]
+#[derive(Clone, Copy)]
 pub enum Order {
     Less,
     Equal,

@@ -7,6 +7,8 @@
 //   ..      var   key count n
 //   ..      1     type: 0 leaf, 1 inner
 //   ..      ..    leaf: n keys, n values; inner: n+1 positions, n+1 recorded counts, n keys
+#![tactic(auto)]
+
 ghost use Rattle.std.specs.Prelude.{◌≡◌, take};
 ghost use Rattle.page.specs.Judged.{begins, length_fits, key_form, whole, leaf_at, inner_at, body_at};
 ghost use Rattle.page.specs.Judged.{fields_at, head_at, judged_at};
@@ -20,7 +22,7 @@ use refusal::Refusal;
 
 // Where a page's chunk stands: its first block, its length in blocks, and the byte of the chunk at
 // which its pages may begin.
-#[derive(Drop)]
+#[derive(Clone, Copy)]
 pub struct Place {
     pub block: u32,
     pub len: u32,
@@ -28,14 +30,14 @@ pub struct Place {
 }
 
 // A page's head: how many keys it has, where its items begin and where the page ends; or its refusal.
-#[derive(Drop)]
+#[derive(Clone, Copy)]
 enum Head {
     Refused(Refusal),
     Body { n: u32, at: usize, end: usize },
 }
 
 // A page by the places of its parts, or its refusal.
-#[derive(Drop)]
+#[derive(Clone, Copy)]
 pub enum Judged {
     Refused(Refusal),
     Leaf {

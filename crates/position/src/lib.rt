@@ -4,20 +4,20 @@
 ghost use Rattle.std.specs.Prelude.{◌≡◌};
 ghost use Rattle.position.specs.Position.{chunk_of, offset_of, code_of, type_of, is_empty, made_of, bound_of, holds_length, folded, check_of};
 
-#[derive(Drop)]
+#[derive(Clone, Copy)]
 pub struct Position {
     pub bits: u64,
 }
 
 // A position made of its fields, or a field that is wider than its bits.
-#[derive(Drop)]
+#[derive(Clone, Copy)]
 pub enum Made {
     At(Position),
     OutOfRange,
 }
 
 // The most bytes that a length code allows.
-#[derive(Drop)]
+#[derive(Clone, Copy)]
 pub enum Bound {
     Most(u32),
     Unbounded,

@@ -15,14 +15,14 @@ use key::{Kind, Sized};
 use order::Order;
 
 // The nearest separator above on a side, by its place in the image; or none.
-#[derive(Drop)]
+#[derive(Clone, Copy)]
 pub enum Bound {
     Open,
     Key { at: usize, len: usize },
 }
 
 // Keys that rise strictly, by the last of them; or keys that do not.
-#[derive(Drop)]
+#[derive(Clone, Copy)]
 pub enum Rise {
     Ends(Bound),
     Falls,

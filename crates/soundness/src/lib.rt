@@ -11,7 +11,7 @@ use refusal::Refusal;
 use rising::{Bound, keys_lie, separators_lie};
 
 // What the examination reports: entries, pages and the deepest page's depth.
-#[derive(Drop)]
+#[derive(Clone, Copy)]
 pub struct Report {
     pub entries: u64,
     pub pages: u64,
@@ -31,14 +31,14 @@ impl Report {
     }
 }
 
-#[derive(Drop)]
+#[derive(Clone, Copy)]
 pub enum Examined {
     Passed(Report),
     Refused(Refusal),
 }
 
 // The places of an inner page's parts.
-#[derive(Drop)]
+#[derive(Clone, Copy)]
 pub struct Inner {
     pub n: u32,
     pub positions: usize,
@@ -49,14 +49,14 @@ pub struct Inner {
 
 // What a page that is judged says by itself: all that there is under it, or an inner page whose children
 // are still to be examined.
-#[derive(Drop)]
+#[derive(Clone, Copy)]
 pub enum Part {
     Done(Examined),
     Children(Inner),
 }
 
 // The nearest separators above on each side.
-#[derive(Drop)]
+#[derive(Clone, Copy)]
 pub struct Span {
     pub lo: Bound,
     pub hi: Bound,
@@ -64,7 +64,7 @@ pub struct Span {
 
 // A child: its position, its recorded count and its right bound; and the places of the next child's
 // count and separator.
-#[derive(Drop)]
+#[derive(Clone, Copy)]
 pub struct Child {
     pub position: Position,
     pub count: u64,
@@ -74,13 +74,13 @@ pub struct Child {
 }
 
 // A recorded count and a separator, with the place after each.
-#[derive(Drop)]
+#[derive(Clone, Copy)]
 pub struct Recorded {
     pub value: u64,
     pub next: usize,
 }
 
-#[derive(Drop)]
+#[derive(Clone, Copy)]
 pub struct Separator {
     pub bound: Bound,
     pub next: usize,

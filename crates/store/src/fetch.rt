@@ -14,7 +14,7 @@ use position::Position;
 use refusal::Refusal;
 
 // One page: the child to go on at with what is left of the index, or the answer.
-#[derive(Drop)]
+#[derive(Clone, Copy)]
 pub enum Turn {
     Child { position: Position, rest: u64 },
     Done(Fetched),

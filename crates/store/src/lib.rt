@@ -26,7 +26,7 @@ use room::many_words;
 pub use walking::advance;
 
 // A map that is asked: by its store, its id and its kind.
-#[derive(Drop)]
+#[derive(Clone, Copy)]
 pub struct Map {
     pub store: Store,
     pub id: u32,
@@ -47,7 +47,7 @@ impl Map {
 }
 
 // An entry: its key and its value by place and length.
-#[derive(Drop)]
+#[derive(Clone, Copy)]
 pub enum Fetched {
     At {
         key: usize,
@@ -58,7 +58,7 @@ pub enum Fetched {
     Refused(Refusal),
 }
 
-#[derive(Drop)]
+#[derive(Clone, Copy)]
 pub enum Counted {
     Is(u64),
     Refused(Refusal),

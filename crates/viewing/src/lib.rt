@@ -7,7 +7,7 @@ use opening::{Opened, Store, View};
 use refusal::Refusal;
 
 // The store that is asked, or why there is none.
-#[derive(Drop)]
+#[derive(Clone, Copy)]
 pub enum Viewed {
     Is(Store),
     Refused(Refusal),

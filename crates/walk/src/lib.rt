@@ -14,7 +14,7 @@ use refusal::Refusal;
 use viewing::Viewed;
 
 // What a step yields: an entry with its number key, or with its text key by place and length.
-#[derive(Drop)]
+#[derive(Clone, Copy)]
 pub enum Next {
     Number {
         key: i64,

@@ -29,9 +29,10 @@ loop-i-preserved c =
     let s = c.args.s.now in
     let b = get_or s l.i 0 in
     let letter : is_letter b ≡ true =
-        elim c.if-b-lt97.branch [
-          then-b-lt97+then-is_capital w ↦ sym w.is_capital.ensures ∙ w.if-is_capital.true
-        | else-b-lt97+else-b-gt122 w ↦ rw (le-leb 65 b (omega arith), lt-leb b 90 (omega arith), le-leb 97 b w.if-b-lt97.false, le-leb b 122 w.if-b-gt122.false) ] in
+    elim c.if-b-lt97.branch [
+      | then-b-lt97+then-is_capital w ↦ sym w.is_capital.ensures ∙ w.if-is_capital.true
+      | else-b-lt97+else-b-gt122 w ↦ rw (le-leb 65 b (omega arith), lt-leb b 90 (omega arith), le-leb 97 b w.if-b-lt97.false, le-leb b 122 w.if-b-gt122.false)
+    ] in
     omega (arith, l.invariant, span_on is_letter s l.i (omega arith) letter)
 
 pub returns : goal.returns

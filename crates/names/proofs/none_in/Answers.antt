@@ -1,0 +1,42 @@
+use Prim.Native.Nat.{◌-◌, ◌≤◌}
+use mathlib.Core.Path.{refl, sym, ◌∙◌}
+use native.Mathlib.Omega.{arith}
+use lib.ListN.{length}
+use Rattle.names.specs.Tree.{is_in}
+use Rattle.names.specs.PartsLaws.{letters_inside, letters_every}
+use Rattle.names.specs.JudgeLaws.{looking_met, looking_right, looking_on}
+use Rattle.names.proofs.none_in.Goals as goal
+
+pub loop-from-init : goal.loop-from-init
+loop-from-init c = record { inside = c.requires.1; on = omega arith; rest = refl }
+
+pub slice_bounds-is_in-end : goal.slice_bounds-is_in-end
+slice_bounds-is_in-end c = letters_inside c.args.line.now c.loop-from.i _ c.letters_end-to.ensures c.loop-from.invariant.inside
+
+pub is_in-requires : goal.is_in-requires
+is_in-requires c =
+    let to_inside = letters_inside c.args.line.now c.loop-from.i _ c.letters_end-to.ensures c.loop-from.invariant.inside in (
+      c.requires.2,
+      omega (arith, c.requires.0, c.loop-from.invariant.on, to_inside),
+      letters_every c.args.line.now c.loop-from.i _ c.letters_end-to.ensures,
+    )
+
+pub returns-then-is_in : goal.returns-then-is_in
+returns-then-is_in c =
+    looking_met c.loop-from.invariant c.letters_end-to.ensures (sym c.is_in.ensures ∙ c.if-is_in.true)
+
+pub returns-then-end-line : goal.returns-then-end-line
+returns-then-end-line c =
+    let other = sym c.is_in.ensures ∙ c.if-is_in.false in
+    looking_right c.loop-from.invariant c.letters_end-to.ensures c.find_byte-end.ensures other c.if-end-line.true
+
+pub loop-from-preserved : goal.loop-from-preserved
+loop-from-preserved c =
+    let other = sym c.is_in.ensures ∙ c.if-is_in.false in
+    looking_on c.loop-from.invariant c.letters_end-to.ensures c.find_byte-end.ensures other c.if-end-line.false
+
+pub overflow_add-i : goal.overflow_add-i
+overflow_add-i c = omega (arith, (loop-from-preserved c).inside)
+
+pub loop-from-smaller : goal.loop-from-smaller
+loop-from-smaller c = omega (arith, (loop-from-preserved c).inside, c.letters_end-to.ensures, c.find_byte-end.ensures)

@@ -1,0 +1,68 @@
+use native.Mathlib.Omega.{arith}
+use mathlib.Core.Path.{sym, ap, ◌∙◌}
+use borrow.Author.Tests.{eq-eqb, ne_eqb}
+use Rattle.page.specs.declared.Head.TheVariants.{Refused}
+use Rattle.page.specs.Judged.{head_at}
+use Rattle.page.specs.JudgedLaws.{begins_room}
+use Rattle.page.proofs.head_at.Goals as goal
+
+pub returns-else-page_begins : goal.returns-else-page_begins
+unfolding head_at
+returns-else-page_begins c = rw (← c.offset-offset.ensures, ← c.page_begins.ensures, c.if-page_begins.false) (ap Refused c.new.ensures)
+
+pub overflow_sub-footer : goal.overflow_sub-footer
+overflow_sub-footer c =
+    omega (arith, begins_room _ c.offset-offset.result (sym c.page_begins.ensures ∙ c.if-page_begins.true))
+
+pub overflow_sub-footer-2 : goal.overflow_sub-footer-2
+overflow_sub-footer-2 c =
+    omega (arith, begins_room _ c.offset-offset.result (sym c.page_begins.ensures ∙ c.if-page_begins.true))
+
+pub returns-else-length_fits : goal.returns-else-length_fits
+unfolding head_at
+returns-else-length_fits c =
+    rw (
+      ← c.offset-offset.ensures,
+      ← c.page_begins.ensures,
+      c.if-page_begins.true,
+      ← c.be32-n.ensures,
+      ← c.code.ensures,
+      ← c.length_fits.ensures,
+      c.if-length_fits.false,
+    ) (ap Refused c.new-else-length_fits.ensures)
+
+pub returns-then-be16-check_value : goal.returns-then-be16-check_value
+unfolding head_at
+returns-then-be16-check_value c =
+    rw (
+      ← c.offset-offset.ensures,
+      ← c.page_begins.ensures,
+      c.if-page_begins.true,
+      ← c.be32-n.ensures,
+      ← c.code.ensures,
+      ← c.length_fits.ensures,
+      c.if-length_fits.true,
+      ← c.be16.ensures,
+      ← c.chunk.ensures,
+      ← c.check_value.ensures,
+      ne_eqb _ _ c.if-be16-check_value.true,
+    ) (ap Refused c.new-then-be16-check_value.ensures)
+
+pub returns : goal.returns
+unfolding head_at
+returns c =
+    rw (
+      ← c.offset-offset.ensures,
+      ← c.page_begins.ensures,
+      c.if-page_begins.true,
+      ← c.be32-n.ensures,
+      ← c.code.ensures,
+      ← c.length_fits.ensures,
+      c.if-length_fits.true,
+      ← c.be16.ensures,
+      ← c.chunk.ensures,
+      ← c.check_value.ensures,
+      eq-eqb _ _ c.if-be16-check_value.false,
+      ← c.cut.ensures,
+      ← c.page_type.ensures,
+    ) c.fields.ensures
