@@ -7,7 +7,7 @@ use fletcher::Edition;
 use line::{Fields, Line};
 
 // What a line says, and where its newline stands in its area.
-#[derive(Drop)]
+#[derive(Clone, Copy)]
 pub struct Reading {
     pub fields: Fields,
     pub newline: usize,

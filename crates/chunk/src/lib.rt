@@ -1,4 +1,6 @@
 // The image, its lines, and when a chunk stands at a block.
+#![tactic(auto)]
+
 mod image;
 
 ghost use Rattle.std.specs.Prelude.{◌+◌, ◌^◌, ◌<◌, ◌≡◌};

@@ -1,5 +1,7 @@
 // What a judged page holds: child, recorded count, key and value of a number, and a key among its
 // keys. `s` is the image up to the page's end (`page::cut`), so that places in it are places in the image.
+#![tactic(auto)]
+
 mod numbers;
 mod texts;
 

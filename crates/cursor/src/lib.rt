@@ -11,7 +11,7 @@ use refusal::Refusal;
 // Child numbers from the root on and, last, the number of the entry last yielded; how many they are;
 // and the last answer's number: 0 for going on, `DONE`, or a refusal's.
 #[repr(C)]
-#[derive(Drop)]
+#[derive(Clone, Copy)]
 pub struct Walk {
     pub places: [u32; 16],
     pub depth: u32,
@@ -30,7 +30,7 @@ pub enum Yield {
     Refused(Refusal),
 }
 
-#[derive(Drop)]
+#[derive(Clone, Copy)]
 pub struct Stepped {
     pub walk: Walk,
     pub got: Yield,

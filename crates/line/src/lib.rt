@@ -1,4 +1,6 @@
 // Text lines: the line of an area, its fields, and the sum in its last field.
+#![tactic(auto)]
+
 mod field;
 mod read;
 mod sum;

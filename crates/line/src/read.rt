@@ -8,7 +8,7 @@ use super::field::{Part, field_at};
 
 // What a line says of each known name, by the name's number: whether it is given, and its value.
 // A line that breaks a rule is not good and gives nothing.
-#[derive(Drop)]
+#[derive(Clone, Copy)]
 pub struct Fields {
     pub good: bool,
     pub given: [bool; 11],

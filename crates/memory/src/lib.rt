@@ -2,6 +2,8 @@
 // own. The places taken come first, in the order of their chunks' ids, so that a chunk is found by
 // halving; a free place is 0. What is recalled was remembered, and no chunk is forgotten; where there is
 // no room, none is added.
+#![tactic(auto)]
+
 ghost use Rattle.std.specs.Prelude.{◌≡◌};
 ghost use Rattle.memory.specs.Words.{place_in, full_in, below_in, sought_in, recalled_at, recalled_in, inserted_at, remembered_in};
 

@@ -61,7 +61,7 @@ pub struct Id {
 // What a step of the walk answers: `done` is 1 where no entry is left. The state is the caller's to
 // hand in again, after a refusal too.
 #[repr(C)]
-#[derive(Drop)]
+#[derive(Clone, Copy)]
 pub struct Step {
     pub refusal: u32,
     pub done: u32,

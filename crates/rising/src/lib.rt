@@ -1,5 +1,7 @@
 // The order of a page's keys: each against the one before it, the first and the last against the
 // nearest separators above.
+#![tactic(auto)]
+
 ghost use Rattle.std.specs.Prelude.{◌≡◌, take};
 ghost use Rattle.order.specs.Order.{is_less, below};
 ghost use Rattle.key.specs.Key.{compare_keys};

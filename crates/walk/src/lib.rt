@@ -31,7 +31,7 @@ pub enum Next {
     Refused(Refusal),
 }
 
-#[derive(Drop)]
+#[derive(Clone, Copy)]
 pub struct Step {
     pub walk: Walk,
     pub next: Next,

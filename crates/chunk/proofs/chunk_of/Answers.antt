@@ -1,0 +1,17 @@
+use native.Mathlib.Numerals.{add-one}
+use Rattle.text.specs.Text.{same}
+use Rattle.line.specs.Reading.{number_of, slot_of}
+use Rattle.chunk.proofs.chunk_of.Goals as goal
+
+pub returns : goal.returns
+unfolding slot_of number_of same
+returns c =
+    let a = c.args in
+    rw (
+      c.value.ensures,
+      c.value-2.ensures,
+      c.value-3.ensures,
+      c.value-4.ensures,
+      c.value-5.ensures,
+      add-one a.r.newline,
+    )

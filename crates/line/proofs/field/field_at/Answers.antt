@@ -1,0 +1,54 @@
+use mathlib.Core.Path.{sym, ◌∙◌}
+use native.Mathlib.Omega.{arith}
+use Rattle.line.specs.FieldAtLaws.{part_unnamed, part_long, part_cut, part_other, part_numberless, part_followed, part_ends}
+use borrow.Author.Rules.{rules}
+use Rattle.line.proofs.field.field_at.Goals as goal
+
+pub returns-then-n-lt1 : goal.returns-then-n-lt1
+returns-then-n-lt1 c =
+    let a = c.args in
+    sym (part_unnamed a.line.now a.from _ c.letters_end-colon.ensures c.if-n-lt1.true)
+
+pub returns-then-n-gt16 : goal.returns-then-n-gt16
+returns-then-n-gt16 c =
+    let a = c.args in
+    sym (part_long a.line.now a.from _ c.letters_end-colon.ensures c.if-n-gt16.true)
+
+pub returns-then-line-colon : goal.returns-then-line-colon
+returns-then-line-colon c =
+    let a = c.args in
+    sym (part_cut a.line.now a.from _ c.letters_end-colon.ensures c.if-line-colon.true)
+
+pub returns-then-line-colon-ne58 : goal.returns-then-line-colon-ne58
+returns-then-line-colon-ne58 c =
+    let a = c.args in
+    sym (part_other a.line.now a.from _ c.letters_end-colon.ensures c.if-line-colon-ne58.true)
+
+pub returns-in_default : goal.returns-in_default
+returns-in_default c =
+    let a = c.args in
+    let letters = c.letters_end-colon.ensures in
+    let none = sym c.hex_at-digits.ensures ∙ c.in_default.is in
+    sym (part_numberless a.line.now a.from _ letters (omega arith) (omega arith) (search rules) none)
+
+pub returns-then-line-next-ne44 : goal.returns-then-line-next-ne44
+returns-then-line-next-ne44 c =
+    let a = c.args in
+    let letters = c.letters_end-colon.ensures in
+    let read = sym c.hex_at-digits.ensures ∙ c.in-Read.is in
+    let more = c.if-next-line.true in
+    sym (part_followed a.line.now a.from _ letters (omega arith) (omega arith) (search rules) _ _ read more c.if-line-next-ne44.true)
+
+pub returns-else-line-next-ne44 : goal.returns-else-line-next-ne44
+returns-else-line-next-ne44 c =
+    let a = c.args in
+    let letters = c.letters_end-colon.ensures in
+    let read = sym c.hex_at-digits.ensures ∙ c.in-Read.is in
+    sym (part_ends a.line.now a.from _ letters (omega arith) (omega arith) (search rules) _ _ read (λ h. search rules))
+
+pub returns-else-next-line : goal.returns-else-next-line
+returns-else-next-line c =
+    let a = c.args in
+    let letters = c.letters_end-colon.ensures in
+    let read = sym c.hex_at-digits.ensures ∙ c.in-Read.is in
+    sym (part_ends a.line.now a.from _ letters (omega arith) (omega arith) (search rules) _ _ read (λ h. absurd (omega arith)))
