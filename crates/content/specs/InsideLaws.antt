@@ -13,8 +13,8 @@ use Rattle.key.specs.declared.sized.Sized.{Sized}
 use Rattle.key.specs.declared.sized.Sized.TheVariants.{At, Bad}
 use Rattle.key.specs.Key.{Key, key_of}
 use Rattle.tree.specs.Page.{All}
-use Rattle.tree.specs.ListLaws.{all_imp}
-use Rattle.tree.specs.HoldsLaws.{InLeaf}
+use Rattle.tree.proofs.ListLaws.{all_imp}
+use Rattle.tree.proofs.HoldsLaws.{InLeaf}
 use Rattle.item.specs.declared.Form.{Form}
 use Rattle.item.specs.declared.Form.TheVariants.{Bytes}
 use Rattle.item.specs.Step.{got, bad, on_step, up_to}

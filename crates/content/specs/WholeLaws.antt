@@ -19,7 +19,7 @@ use Rattle.tree.specs.Page.{Children, leaf, inner, total}
 use Rattle.tree.specs.Rising.{keys_of}
 use Rattle.tree.specs.Asking.{index_children}
 use Rattle.tree.specs.InnerPage.{children_of, sum}
-use Rattle.tree.specs.ChildrenLaws.{total_children_of}
+use Rattle.tree.proofs.ChildrenLaws.{total_children_of}
 use Rattle.item.specs.declared.Form.TheVariants.{Word, Bytes}
 use Rattle.item.specs.declared.Counted.TheVariants as sums
 use Rattle.item.specs.Step.{Step, got, bad, on_step, after, up_to}

@@ -3,7 +3,7 @@ use Rattle.std.specs.Prelude.{ℕ, suc, ◌+◌, ◌-◌, ◌≤◌, ◌<◌, �
 use Rattle.std.proofs.Common.{◌∙◌, ap, true≢false, append_assoc, add-one, arith, length-append, drop_of_length-le, length-take-le, take-suc, drop-cons, leb-true, ne_eqb, lt-ltb}
 use Rattle.std.proofs.lemmas.List.{length-replicate, replicate-append-replicate, set_at}
 use Rattle.key.specs.Key.{Key}
-use Rattle.tree.specs.WalkLaws.{prefixed}
+use Rattle.tree.proofs.WalkLaws.{prefixed}
 use Rattle.content.specs.Content.{Entry}
 use Rattle.cursor.specs.declared.Walk.{Walk}
 use Rattle.cursor.specs.Walk.{zeros, formed, leading, yield_of, settled}

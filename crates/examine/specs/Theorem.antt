@@ -9,10 +9,10 @@ use Rattle.key.specs.Key.{Key, key_of, well_formed, compare_keys}
 use Rattle.key.specs.Laws.{key_order}
 use Rattle.tree.specs.Page.{Page}
 use Rattle.tree.specs.Asking.{map_lookup, map_index, map_count}
-use Rattle.tree.specs.ListLaws.{all_member}
+use Rattle.tree.proofs.ListLaws.{all_member}
 use Rattle.tree.specs.Examination.{map_examine}
 use Rattle.tree.specs.Demand3.{Passes as PassesTree}
-use Rattle.tree.specs.Theorem.{examined, passed_answers, passed_entries}
+use Rattle.tree.proofs.Theorem.{examined, passed_answers, passed_entries}
 use Rattle.opening.specs.declared.View.{View}
 use Rattle.opening.specs.declared.Store.{Store}
 use Rattle.content.specs.Content.{Entry}

@@ -3,7 +3,7 @@ use Rattle.std.specs.Prelude.{ℕ, ◌≡◌, refl, List}
 use Rattle.std.proofs.Common.{ap}
 use Rattle.order.specs.declared.Order.TheVariants.{Less, Equal}
 use Rattle.order.specs.Order.{turned, TotalOrder}
-use Rattle.order.specs.Instances.{nat_order, int_order, lex_order}
+use Rattle.order.proofs.Instances.{nat_order, int_order, lex_order}
 use Rattle.key.specs.Key.{Key, number, text, texts_order, compare_keys}
 
 texts_order_lem : TotalOrder (List ℕ) texts_order

@@ -16,7 +16,7 @@ use borrow.Author.Tests.{le-ltb, le-leb, lt-leb, leb-true}
 use Rattle.refusal.specs.declared.Refusal.{Refusal}
 use Rattle.refusal.specs.Refusal.{Outcome, ok, refuse, bind, bad_argument, area_too_small}
 use Rattle.numeral.specs.BigEndian.{big_endian_at}
-use Rattle.tree.specs.OutcomeLaws.{refuse_ok}
+use Rattle.tree.proofs.OutcomeLaws.{refuse_ok}
 use Rattle.text.specs.Text.{within, every, is_printable}
 use Rattle.key.specs.declared.Kind.{Kind}
 use Rattle.key.specs.declared.Kind.TheVariants.{Number, Text}

@@ -9,7 +9,7 @@ use Rattle.key.specs.declared.Kind.{Kind}
 use Rattle.key.specs.Key.{Key, compare_keys}
 use Rattle.tree.specs.Asking.{find_in}
 use Rattle.tree.specs.InnerPage.{lead}
-use Rattle.tree.specs.ChildrenLaws.{child_for-children_of}
+use Rattle.tree.proofs.ChildrenLaws.{child_for-children_of}
 use Rattle.page.specs.declared.Place.{Place}
 use Rattle.page.specs.declared.Judged.{Judged}
 use Rattle.page.specs.declared.Judged.TheVariants as judged

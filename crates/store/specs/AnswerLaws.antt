@@ -9,7 +9,7 @@ use Rattle.key.specs.declared.Kind.{Kind}
 use Rattle.key.specs.declared.Kind.TheVariants.{Text}
 use Rattle.key.specs.Key.{Key, key_of, text, compare_keys}
 use Rattle.tree.specs.Asking.{map_lookup}
-use Rattle.locating.specs.GateLaws.{gated_open}
+use Rattle.locating.proofs.GateLaws.{gated_open}
 use Rattle.opening.specs.declared.Store.{Store}
 use Rattle.content.specs.Content.{Entry}
 use Rattle.metadata.specs.declared.Location.{Location}

@@ -20,11 +20,11 @@ use Rattle.key.specs.declared.Kind.{Kind}
 use Rattle.key.specs.Key.{Key, compare_keys}
 use Rattle.tree.specs.Page.{nth, All}
 use Rattle.tree.specs.Asking.{index_page, count_page, index, map_index, map_count, map_entries}
-use Rattle.tree.specs.ListLaws.{all_imp}
-use Rattle.tree.specs.OutcomeLaws.{bind_ok}
+use Rattle.tree.proofs.ListLaws.{all_imp}
+use Rattle.tree.proofs.OutcomeLaws.{bind_ok}
 use Rattle.tree.specs.Walk.{map_next}
-use Rattle.tree.specs.WalkHoldsLaws.{Holds, map_next_holds}
-use Rattle.tree.specs.HoldsLaws.{InLeaf, map_lookup_holds, map_index_holds, map_entries_hold}
+use Rattle.tree.proofs.WalkHoldsLaws.{Holds, map_next_holds}
+use Rattle.tree.proofs.HoldsLaws.{InLeaf, map_lookup_holds, map_index_holds, map_entries_hold}
 use Rattle.opening.specs.declared.Store.{Store}
 use Rattle.page.specs.declared.Judged.{Judged}
 use Rattle.page.specs.declared.Judged.TheVariants as judged

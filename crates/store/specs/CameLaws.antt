@@ -15,8 +15,8 @@ use Rattle.key.specs.declared.Kind.{Kind}
 use Rattle.key.specs.Key.{Key, text, compare_keys}
 use Rattle.tree.specs.Examination.{Report, nothing, both, counted, examine_children, examine}
 use Rattle.tree.specs.InnerPage.{children_from, sum, examine_from}
-use Rattle.tree.specs.ChildrenLaws.{more_from, last_from, examine_from_lem}
-use Rattle.tree.specs.Bounds.{Few, Small, nothing_few, both_few, children_small, children_total, examine_bounded, examine_below}
+use Rattle.tree.proofs.ChildrenLaws.{more_from, last_from, examine_from_lem}
+use Rattle.tree.proofs.Bounds.{Few, Small, nothing_few, both_few, children_small, children_total, examine_bounded, examine_below}
 use Rattle.opening.specs.declared.Store.{Store}
 use Rattle.item.specs.Step.{up_to}
 use Rattle.item.specs.Item.{items, count_at}

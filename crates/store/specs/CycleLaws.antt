@@ -18,9 +18,9 @@ use Rattle.position.specs.Position.{chunk_of}
 use Rattle.tree.specs.Page.{Page, leaf, inner}
 use Rattle.tree.specs.Asking.{find_in}
 use Rattle.locating.specs.Known.{Gated, Known, read_with, asked_in, CameTo}
-use Rattle.locating.specs.GateLaws.{gated_open, gated_shut, gated_zero, gated_same}
-use Rattle.locating.specs.StepLaws.{newest_known, ninth_refused, page_zero, page_refused}
-use Rattle.locating.specs.StepLaws.{page_known, empty_found, root_reached, depth_refused, descent_refused, child_reached, leaf_found}
+use Rattle.locating.proofs.GateLaws.{gated_open, gated_shut, gated_zero, gated_same}
+use Rattle.locating.proofs.StepLaws.{newest_known, ninth_refused, page_zero, page_refused}
+use Rattle.locating.proofs.StepLaws.{page_known, empty_found, root_reached, depth_refused, descent_refused, child_reached, leaf_found}
 use Rattle.opening.specs.declared.Store.{Store}
 use Rattle.page.specs.declared.Place.{Place}
 use Rattle.content.specs.Content.{Entry, page_in}

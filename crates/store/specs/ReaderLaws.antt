@@ -9,8 +9,8 @@ use Rattle.key.specs.declared.Kind.{Kind}
 use Rattle.key.specs.Key.{Key}
 use Rattle.opening.specs.declared.Store.{Store}
 use Rattle.tree.specs.Page.{branch, Page, leaf, inner}
-use Rattle.tree.specs.OutcomeLaws.{refuse_ok, bind_ok}
-use Rattle.tree.specs.Bounds.{ReadsBelow}
+use Rattle.tree.proofs.OutcomeLaws.{refuse_ok, bind_ok}
+use Rattle.tree.proofs.Bounds.{ReadsBelow}
 use Rattle.page.specs.declared.Place.{Place}
 use Rattle.content.specs.Content.{Entry, page_in}
 use Rattle.content.specs.WholeLaws.{leaf_below, inner_below}

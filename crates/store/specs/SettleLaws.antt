@@ -19,7 +19,7 @@ use Rattle.chunk.specs.ChunkLaws.{kept_told}
 use Rattle.key.specs.declared.Kind.{Kind}
 use Rattle.key.specs.declared.Kind.TheVariants.{Text}
 use Rattle.key.specs.Key.{Key, text}
-use Rattle.locating.specs.StepLaws.{asked_refused, placed_refused, placed_known}
+use Rattle.locating.proofs.StepLaws.{asked_refused, placed_refused, placed_known}
 use Rattle.page.specs.declared.Place.{Place}
 use Rattle.metadata.specs.declared.Location.TheVariants as location
 use Rattle.metadata.specs.declared.Answer.{Answer}

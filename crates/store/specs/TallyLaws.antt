@@ -14,7 +14,7 @@ use Rattle.refusal.specs.declared.Refusal.{Refusal}
 use Rattle.refusal.specs.Refusal.{Outcome, ok, refuse, bind, unsound}
 use Rattle.tree.specs.Page.{branch}
 use Rattle.tree.specs.Examination.{Report, both, counted}
-use Rattle.tree.specs.Bounds.{Few}
+use Rattle.tree.proofs.Bounds.{Few}
 use Rattle.soundness.specs.declared.Examined.{Examined}
 use Rattle.soundness.specs.declared.Examined.TheVariants as examined
 use Rattle.soundness.specs.declared.Report.{Report as Figures}

@@ -16,9 +16,9 @@ use Rattle.key.specs.Key.{Key}
 use Rattle.tree.specs.Page.{leaf, inner}
 use Rattle.tree.specs.InnerPage.{children_of}
 use Rattle.tree.specs.Walk.{Moved, over, stop}
-use Rattle.tree.specs.WalkLaws.{child_some, child_none, first_child_lem, prefixed, raised, leftmost_at, next_at}
-use Rattle.tree.specs.WalkLaws.{leftmost_refused, leftmost_empty_root, leftmost_empty_below, leftmost_entry, leftmost_inner}
-use Rattle.tree.specs.WalkLaws.{at_refused, at_too_deep, at_no_entry, at_entry, at_over, at_too_high, at_no_child, at_last_child, at_child}
+use Rattle.tree.proofs.WalkLaws.{child_some, child_none, first_child_lem, prefixed, raised, leftmost_at, next_at}
+use Rattle.tree.proofs.WalkLaws.{leftmost_refused, leftmost_empty_root, leftmost_empty_below, leftmost_entry, leftmost_inner}
+use Rattle.tree.proofs.WalkLaws.{at_refused, at_too_deep, at_no_entry, at_entry, at_over, at_too_high, at_no_child, at_last_child, at_child}
 use Rattle.opening.specs.declared.Store.{Store}
 use Rattle.page.specs.declared.Judged.{Judged}
 use Rattle.page.specs.declared.Judged.TheVariants as judged

@@ -11,7 +11,7 @@ use Rattle.position.specs.declared.Position.{Position}
 use Rattle.key.specs.declared.Kind.{Kind}
 use Rattle.key.specs.Key.{Key}
 use Rattle.tree.specs.Walk.{Moved, over, stop, map_next}
-use Rattle.tree.specs.WalkLaws.{raised, length_raised, zeros_more, leftmost_at, map_empty, map_empty_numbers, map_first}
+use Rattle.tree.proofs.WalkLaws.{raised, length_raised, zeros_more, leftmost_at, map_empty, map_empty_numbers, map_first}
 use Rattle.opening.specs.declared.Store.{Store}
 use Rattle.content.specs.Content.{Entry}
 use Rattle.metadata.specs.declared.Root.{Root}

@@ -6,7 +6,7 @@ use Rattle.std.specs.Prelude.{ℕ, suc, ◌-◌, ◌≤◌, ◌<◌, ◌≡◌, 
 use Rattle.key.specs.declared.Kind.{Kind}
 use Rattle.key.specs.Key.{Key}
 use Rattle.tree.specs.Walk.{over, stop, map_next}
-use Rattle.tree.specs.WalkLaws.{prefixed, raised, leftmost_at}
+use Rattle.tree.proofs.WalkLaws.{prefixed, raised, leftmost_at}
 use Rattle.opening.specs.declared.Store.{Store}
 use Rattle.content.specs.Content.{Entry}
 use Rattle.cursor.specs.declared.Yield.TheVariants as yields

@@ -12,7 +12,7 @@ use Rattle.key.specs.Key.{Key, compare_keys}
 use Rattle.tree.specs.Asking.{map_entries}
 use Rattle.tree.specs.Sound.{Sound}
 use Rattle.tree.specs.Walk.{Moved, map_next, Yields}
-use Rattle.tree.specs.WalkTheorem.{Fits, next_fits, sound_yields}
+use Rattle.tree.proofs.WalkTheorem.{Fits, next_fits, sound_yields}
 use Rattle.opening.specs.declared.Store.{Store}
 use Rattle.content.specs.Content.{Entry}
 use Rattle.cursor.specs.declared.Walk.{Walk}

@@ -19,8 +19,8 @@ use Rattle.position.specs.declared.Position.{Position}
 use Rattle.key.specs.declared.Kind.{Kind}
 use Rattle.key.specs.Key.{Key}
 use Rattle.tree.specs.Walk.{Moved, over, stop, map_next}
-use Rattle.tree.specs.WalkLaws.{prefixed, raised, leftmost_at, next_at, map_next_lem}
-use Rattle.tree.specs.WalkLaws.{leftmost_deep}
+use Rattle.tree.proofs.WalkLaws.{prefixed, raised, leftmost_at, next_at, map_next_lem}
+use Rattle.tree.proofs.WalkLaws.{leftmost_deep}
 use Rattle.opening.specs.declared.Store.{Store}
 use Rattle.page.specs.declared.Judged.{Judged}
 use Rattle.content.specs.Content.{Entry}

@@ -9,7 +9,7 @@ use Rattle.text.specs.Text.{within}
 use Rattle.key.specs.declared.Kind.{Kind}
 use Rattle.key.specs.Key.{Key, number, text}
 use Rattle.tree.specs.Walk.{Moved, yield, over, stop}
-use Rattle.tree.specs.WalkHoldsLaws.{Holds}
+use Rattle.tree.proofs.WalkHoldsLaws.{Holds}
 use Rattle.opening.specs.declared.View.{View}
 use Rattle.opening.specs.declared.Store.{Store}
 use Rattle.content.specs.Content.{Entry, key_in}

@@ -4,8 +4,8 @@ use mathlib.Core.List.{List}
 use native.Mathlib.Omega.{arith}
 use lib.ListN.{length}
 use Rattle.fletcher.specs.declared.Edition.TheVariants.{First, Second}
-use Rattle.fletcher.specs.Laws.{sums_odd, sums_end}
-use Rattle.fletcher.specs.PlainLaws.{added_odd, within_added, within_fits}
+use Rattle.fletcher.proofs.Laws.{sums_odd, sums_end}
+use Rattle.fletcher.proofs.PlainLaws.{added_odd, within_added, within_fits}
 use Rattle.fletcher.proofs.add_rest.Goals as goal
 
 -- the place behind the words

@@ -3,7 +3,7 @@ use Prim.Native.Nat.{◌+◌, ◌*◌, ◌-◌}
 use mathlib.Core.Path.{◌≡◌, ◌∙◌}
 use native.Mathlib.Nat.{add-zero}
 use native.Mathlib.Omega.{arith}
-use Rattle.fletcher.specs.PlainLaws.{reduced_stays, added_more, within_start, within_added, within_fits}
+use Rattle.fletcher.proofs.PlainLaws.{reduced_stays, added_more, within_start, within_added, within_fits}
 use Rattle.fletcher.proofs.add_words.Goals as goal
 
 pub loop-n-init : goal.loop-n-init

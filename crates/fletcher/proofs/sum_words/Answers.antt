@@ -2,7 +2,7 @@ use borrow.Author.Rules.{rules}
 use Prim.Native.Nat.{◌-◌}
 use mathlib.Core.Path.{refl, ◌∙◌}
 use native.Mathlib.Omega.{arith}
-use Rattle.fletcher.specs.PlainLaws.{both_reduced_lem, start_reduced}
+use Rattle.fletcher.proofs.PlainLaws.{both_reduced_lem, start_reduced}
 use Rattle.fletcher.proofs.sum_words.Goals as goal
 
 pub loop-i-init : goal.loop-i-init

@@ -25,9 +25,9 @@ use Rattle.tree.specs.Sound.{Sound}
 use Rattle.tree.specs.Walk.{Moved, yield, over, stop, child_at, first_child, entry_at, after_entry, leftmost_in, next_over, next_in}
 use Rattle.tree.specs.Walk.{first_page, next_page, first, next, map_next, Yields}
 use Rattle.tree.specs.Meets.{Filled, MeetsPage, Meets, MeetsMap}
-use Rattle.tree.specs.ListLaws.{children_imp}
-use Rattle.tree.specs.FilledLaws.{meets_filled}
-use Rattle.tree.specs.ReachedLaws.{sound_meets}
+use Rattle.tree.proofs.ListLaws.{children_imp}
+use Rattle.tree.proofs.FilledLaws.{meets_filled}
+use Rattle.tree.proofs.ReachedLaws.{sound_meets}
 
 -- ## Steps from entry to entry
 abbrev Runs : {E : Type 0} → (ℕ → List ℕ → Moved E) → Moved E → List E → Type 0

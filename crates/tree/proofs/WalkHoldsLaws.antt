@@ -9,7 +9,7 @@ use Rattle.refusal.specs.Refusal.{Outcome, ok, refuse}
 use Rattle.tree.specs.Page.{Page, leaf, inner, All}
 use Rattle.tree.specs.Walk.{Moved, yield, over, stop, child_at, first_child, entry_at, after_entry, leftmost_in, next_over, next_in}
 use Rattle.tree.specs.Walk.{first_page, next_page, first, next, map_next}
-use Rattle.tree.specs.HoldsLaws.{InLeaf}
+use Rattle.tree.proofs.HoldsLaws.{InLeaf}
 
 module _ {E : Type 0} (P : E → Type 0) where
   abbrev pub Holds : Moved E → Type 0

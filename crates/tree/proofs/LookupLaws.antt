@@ -11,13 +11,13 @@ use Rattle.refusal.specs.Refusal.{Outcome, ok, refuse}
 use Rattle.order.specs.declared.Order.{Order}
 use Rattle.order.specs.declared.Order.TheVariants.{Less, Equal, Greater}
 use Rattle.order.specs.Order.{TotalOrder, Below, UpTo, below}
-use Rattle.order.specs.Laws.{below_true, true_below, below_false, false_below, below_greater, greater_below, below_upto_below}
+use Rattle.order.proofs.Laws.{below_true, true_below, below_false, false_below, below_greater, greater_below, below_upto_below}
 use Rattle.tree.specs.Page.{Children, last, more, Page, leaf, inner, joined, All, AllChildren}
 use Rattle.tree.specs.Asking.{three, child_for, find_in, lookup_page, entries_page, lookup, entries}
 use Rattle.tree.specs.Sound.{Rising, Separated}
 use Rattle.tree.specs.Meets.{MeetsPage, Meets}
-use Rattle.tree.specs.ListLaws.{all_imp, all_right, all_member}
-use Rattle.tree.specs.BoundLaws.{children_rising}
+use Rattle.tree.proofs.ListLaws.{all_imp, all_right, all_member}
+use Rattle.tree.proofs.BoundLaws.{children_rising}
 
 abbrev pub assoc : {K W : Type 0} → (K → K → Order) → K → List (K × W) → Option W
 assoc cmp k [] = none

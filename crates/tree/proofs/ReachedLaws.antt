@@ -13,8 +13,8 @@ use Rattle.tree.specs.Page.{Children, Page, leaf, inner}
 use Rattle.tree.specs.Asking.{entries, map_entries}
 use Rattle.tree.specs.Sound.{IsChild, page_at, Reached, top, under, Rising, Sound}
 use Rattle.tree.specs.Meets.{Filled, MeetsChildren, MeetsPage, Meets, MeetsMap}
-use Rattle.tree.specs.ListLaws.{children_imp, children_child, children_and}
-use Rattle.tree.specs.OutcomeLaws.{refuse_ok}
+use Rattle.tree.proofs.ListLaws.{children_imp, children_child, children_and}
+use Rattle.tree.proofs.OutcomeLaws.{refuse_ok}
 
 -- ## What Meets tells of a page, by what is read there
 module _ {K W : Type 0} (cmp : K → K → Order) (read : ℕ → Outcome (Page K W)) where

@@ -7,10 +7,10 @@ use Rattle.std.proofs.Math.Option.{Option, none, some}
 use mathlib.Core.List.{List, [], ◌∷◌}
 use Rattle.order.specs.declared.Order.{Order}
 use Rattle.order.specs.Order.{TotalOrder, below}
-use Rattle.order.specs.Laws.{below_true, below_irreflexive}
+use Rattle.order.proofs.Laws.{below_true, below_irreflexive}
 use Rattle.tree.specs.Examination.{above_bound, from_bound, below_bound, separators_lie, keys_lie}
 use Rattle.tree.specs.Rising.{keys_of, rises, first_above, first_from, last_below, keys_test, separators_test}
-use Rattle.tree.specs.BoundLaws.{from_true, true_from, under_true, true_under, above_upto_from, from_below_above, below_under_under}
+use Rattle.tree.proofs.BoundLaws.{from_true, true_from, under_true, true_under, above_upto_from, from_below_above, below_under_under}
 
 -- ## A test that follows from later ones
 -- b follows where c, r and m hold

@@ -11,8 +11,8 @@ use Rattle.order.specs.declared.Order.TheVariants.{Less, Equal, Greater}
 use Rattle.tree.specs.Page.{branch, Children, last, more, Page, leaf, inner, joined, nth, All}
 use Rattle.tree.specs.Asking.{three, child_for, find_in, lookup_page, index_children, index_page, entries_page}
 use Rattle.tree.specs.Asking.{lookup, map_lookup, index, map_index, entries, map_entries}
-use Rattle.tree.specs.ListLaws.{all_append}
-use Rattle.tree.specs.OutcomeLaws.{refuse_ok}
+use Rattle.tree.proofs.ListLaws.{all_append}
+use Rattle.tree.proofs.OutcomeLaws.{refuse_ok}
 
 module _ {K W : Type 0} (P : K × W → Type 0) where
   abbrev pub InLeaf : Outcome (Page K W) → Type 0

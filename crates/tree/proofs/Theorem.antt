@@ -19,12 +19,12 @@ use Rattle.tree.specs.Sound.{Sound}
 use Rattle.tree.specs.Examination.{Report, nothing, map_examine}
 use Rattle.tree.specs.Demand3.{Passes, Answers}
 use Rattle.tree.specs.Meets.{MeetsMap}
-use Rattle.tree.specs.ListLaws.{all_always, nth_beyond, nth_element}
-use Rattle.tree.specs.LookupLaws.{assoc, assoc_present, assoc_absent, lookup_meets}
-use Rattle.tree.specs.IndexLaws.{index_meets, count_meets}
-use Rattle.tree.specs.PassedLaws.{same_entries}
-use Rattle.tree.specs.ExamineLaws.{examine_tells, examine_passes}
-use Rattle.tree.specs.ReachedLaws.{sound_meets, meets_sound}
+use Rattle.tree.proofs.ListLaws.{all_always, nth_beyond, nth_element}
+use Rattle.tree.proofs.LookupLaws.{assoc, assoc_present, assoc_absent, lookup_meets}
+use Rattle.tree.proofs.IndexLaws.{index_meets, count_meets}
+use Rattle.tree.proofs.PassedLaws.{same_entries}
+use Rattle.tree.proofs.ExamineLaws.{examine_tells, examine_passes}
+use Rattle.tree.proofs.ReachedLaws.{sound_meets, meets_sound}
 
 module _ {K W : Type 0} {cmp : K → K → Order} (L : TotalOrder K cmp) (read : ℕ → Outcome (Page K W)) where
   -- ## Of a map, by its root

@@ -8,7 +8,7 @@ use Rattle.order.specs.declared.Order.{Order}
 use Rattle.tree.specs.Page.{Children, more, leaf, inner, separators}
 use Rattle.tree.specs.Examination.{Report, one_leaf, both, over, counted, filled, separators_lie, keys_lie, examine_children}
 use Rattle.tree.specs.Examination.{examine_page}
-use Rattle.tree.specs.OutcomeLaws.{refuse_ok, bind_ok, branch_ok}
+use Rattle.tree.proofs.OutcomeLaws.{refuse_ok, bind_ok, branch_ok}
 
 pub same_entries : {a b : Report} → a ≡ b → a.entries ≡ b.entries
 same_entries e = ap (λ (x : Report). x.entries) e

@@ -14,7 +14,7 @@ use Rattle.tree.specs.Page.{Children, Page, leaf, inner}
 use Rattle.tree.specs.Asking.{child_for, find_in, lookup_page, lookup, map_lookup}
 use Rattle.locating.specs.Locating.{Metadata, placed, located, asked, gate}
 use Rattle.locating.specs.Known.{Gated, Known, read_with, asked_below, asked_in, CameTo}
-use Rattle.locating.specs.GateLaws.{gate_shut, gate_suc, gated_open, gated_zero, gated_then, gated_same, gated_through}
+use Rattle.locating.proofs.GateLaws.{gate_shut, gate_suc, gated_open, gated_zero, gated_then, gated_same, gated_through}
 
 -- ## A chunk
 module _ {K W L : Type 0} (m : Metadata K W L) {c : ℕ} where

@@ -8,7 +8,7 @@ use Rattle.order.specs.declared.Order.{Order}
 use Rattle.tree.specs.Page.{branch, Children, last, more, Page, leaf, inner, joined, nth, AllChildren}
 use Rattle.tree.specs.Asking.{index_children, index_page, count_page, entries_page, index, entries}
 use Rattle.tree.specs.Meets.{MeetsPage, Meets}
-use Rattle.tree.specs.ListLaws.{children_imp, total_joined, nth_left, nth_right, nth_beyond}
+use Rattle.tree.proofs.ListLaws.{children_imp, total_joined, nth_left, nth_right, nth_beyond}
 
 module _ {K E : Type 0} (list : ℕ → List E) (child : ℕ → ℕ → Outcome E) where
   index_children_lem : (i : ℕ) (cs : Children K)

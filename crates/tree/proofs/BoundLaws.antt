@@ -7,12 +7,12 @@ use Rattle.std.proofs.Math.Option.{Option, none, some}
 use Rattle.std.proofs.lemmas.Bool.{not-true}
 use Rattle.order.specs.declared.Order.{Order}
 use Rattle.order.specs.Order.{TotalOrder, Below, UpTo, below}
-use Rattle.order.specs.Laws.{below_true, true_below, below_false, false_below, below_upto, below_upto_below, upto_below_below}
+use Rattle.order.proofs.Laws.{below_true, true_below, below_false, false_below, below_upto, below_upto_below, upto_below_below}
 use Rattle.tree.specs.Page.{Children, last, more, joined, All, AllChildren}
 use Rattle.tree.specs.Sound.{Rising}
 use Rattle.tree.specs.Examination.{above_bound, from_bound, below_bound}
 use Rattle.tree.specs.Meets.{AboveBound, FromBound, BelowBound, LeftOfBound, Within}
-use Rattle.tree.specs.ListLaws.{all_append, all_left, all_right, all_imp}
+use Rattle.tree.proofs.ListLaws.{all_append, all_left, all_right, all_imp}
 
 -- ## The tests
 module _ {K : Type 0} (cmp : K → K → Order) where

@@ -15,9 +15,9 @@ use Rattle.order.specs.declared.Order.{Order}
 use Rattle.tree.specs.Page.{Children, last, more, Page, leaf, inner, total}
 use Rattle.tree.specs.Examination.{Report, nothing, one_leaf, both, over, examine_children, examine_page, examine}
 use Rattle.tree.specs.Meets.{Filled}
-use Rattle.tree.specs.OutcomeLaws.{refuse_ok}
-use Rattle.tree.specs.FilledLaws.{filled_true}
-use Rattle.tree.specs.PassedLaws.{same_entries, counted_ok, more_ok, leaf_ok, inner_ok}
+use Rattle.tree.proofs.OutcomeLaws.{refuse_ok}
+use Rattle.tree.proofs.FilledLaws.{filled_true}
+use Rattle.tree.proofs.PassedLaws.{same_entries, counted_ok, more_ok, leaf_ok, inner_ok}
 
 -- ## Pages and depth
 pub record Few (levels : ℕ) (r : Report) : Type 0 where

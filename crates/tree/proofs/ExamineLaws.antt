@@ -15,13 +15,13 @@ use Rattle.tree.specs.Asking.{entries_page, entries}
 use Rattle.tree.specs.Examination.{Report, one_leaf, both, over, above_bound, from_bound, below_bound, separators_lie, keys_lie}
 use Rattle.tree.specs.Examination.{examine_children, examine_page, examine}
 use Rattle.tree.specs.Meets.{Filled, AboveBound, BelowBound, LeftOfBound, Within, MeetsChildren, MeetsPage, Meets}
-use Rattle.tree.specs.ListLaws.{all_append, all_right, all_always, all_imp}
-use Rattle.tree.specs.OutcomeLaws.{refuse_ok}
-use Rattle.tree.specs.FilledLaws.{filled_true, true_filled, filled_both, joined_filled, meets_filled}
-use Rattle.tree.specs.BoundLaws.{above_true, true_above, from_true, true_from, under_true, true_under, left_above_below}
-use Rattle.tree.specs.BoundLaws.{above_below_above, from_below_above, upto_under_under, within_append, within_left}
-use Rattle.tree.specs.BoundLaws.{within_right}
-use Rattle.tree.specs.PassedLaws.{same_entries, counted_ok, ok_counted, more_ok, leaf_ok, inner_ok}
+use Rattle.tree.proofs.ListLaws.{all_append, all_right, all_always, all_imp}
+use Rattle.tree.proofs.OutcomeLaws.{refuse_ok}
+use Rattle.tree.proofs.FilledLaws.{filled_true, true_filled, filled_both, joined_filled, meets_filled}
+use Rattle.tree.proofs.BoundLaws.{above_true, true_above, from_true, true_from, under_true, true_under, left_above_below}
+use Rattle.tree.proofs.BoundLaws.{above_below_above, from_below_above, upto_under_under, within_append, within_left}
+use Rattle.tree.proofs.BoundLaws.{within_right}
+use Rattle.tree.proofs.PassedLaws.{same_entries, counted_ok, ok_counted, more_ok, leaf_ok, inner_ok}
 
 -- the report counts the entries es, whose keys lie within the bounds; Fact is what else is told
 pub record Told {K W : Type 0} (cmp : K → K → Order) (Fact : Type 0) (lo hi : Option K) (es : List (K × W)) (r : Report) : Type 0 where

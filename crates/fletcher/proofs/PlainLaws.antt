@@ -10,7 +10,7 @@ use Rattle.fletcher.specs.declared.Edition.{Edition}
 use Rattle.fletcher.specs.declared.Edition.TheVariants.{First, Second}
 use Rattle.fletcher.specs.declared.Sums.{Sums}
 use Rattle.fletcher.specs.Fletcher.{reduced, start, add_word, sums}
-use Rattle.fletcher.specs.Laws.{sums_more, sums_odd}
+use Rattle.fletcher.proofs.Laws.{sums_more, sums_odd}
 use Rattle.fletcher.specs.Plain.{added, plain, words_in, both_reduced, InRange, Reduced, Fits, most, Within}
 
 -- ## Reducing

@@ -28,8 +28,8 @@ use Rattle.refusal.specs.declared.Refusal.{Refusal}
 use Rattle.refusal.specs.Refusal.{Outcome, ok, refuse, too_deep, unsound}
 use Rattle.tree.specs.Page.{Children, Page, leaf, inner}
 use Rattle.tree.specs.InnerPage.{children_of}
-use Rattle.tree.specs.ListLaws.{nth_element}
-use Rattle.tree.specs.ChildrenLaws.{get_or_tail}
+use Rattle.tree.proofs.ListLaws.{nth_element}
+use Rattle.tree.proofs.ChildrenLaws.{get_or_tail}
 use Rattle.tree.specs.Walk.{Moved, yield, over, stop, child_at, first_child, leftmost_in, next_over, first, next, map_next}
 
 -- ## Children and elements by number

@@ -1,0 +1,3 @@
+pub mod ChunkExamples
+pub mod GateLaws
+pub mod StepLaws
