@@ -72,5 +72,5 @@ returns c =
     rw (
       said_fit a.image.now a.b c.if-b-lt2.false full fits,
       ← c.chunk_line-r.ensures,
-      ← c.Chunk-of.ensures,
+      ← c.chunk_of.ensures,
     )

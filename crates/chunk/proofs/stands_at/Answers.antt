@@ -7,16 +7,16 @@ use Rattle.chunk.proofs.stands_at.Goals as goal
 pub returns-in_default : goal.returns-in_default
 returns-in_default c =
     let a = c.args in
-    sym (stands_unsaid a.image.now a.edition a.b (sym c.Said-at.ensures ∙ c.in_default.is))
+    sym (stands_unsaid a.image.now a.edition a.b (sym c.said_at-s.ensures ∙ c.in_default.is))
 
 pub with_footer-requires : goal.with_footer-requires
 with_footer-requires c =
     let a = c.args in
-    let s = sym c.Said-at.ensures ∙ c.in-Stands.is in
+    let s = sym c.said_at-s.ensures ∙ c.in-Stands.is in
     omega (arith, said_inside a.image.now a.b s, blocks_most a.image.now)
 
 pub returns : goal.returns
 returns c =
     let a = c.args in
-    let s = sym c.Said-at.ensures ∙ c.in-Stands.is in
+    let s = sym c.said_at-s.ensures ∙ c.in-Stands.is in
     c.with_footer.ensures ∙ sym (stands_footed a.image.now a.b s a.edition)

@@ -3,4 +3,4 @@ use Rattle.chunk.proofs.image.chunk_line.Goals as goal
 
 pub returns : goal.returns
 unfolding chunk_line
-returns c = rw (← c.start_of_lem.ensures, ← c.bytes_at.ensures) c.plain_line.ensures
+returns c = rw (← c.start_of.ensures, ← c.bytes_at.ensures) c.plain_line.ensures

@@ -5,14 +5,14 @@ use Rattle.line.specs.LineLaws.{line_inside}
 use Rattle.chunk.proofs.image.plain_line.Goals as goal
 
 pub returns-in_default : goal.returns-in_default
-returns-in_default c = rw (← c.Line-of.ensures, c.in_default.is) c.none.ensures
+returns-in_default c = rw (← c.line_of-l.ensures, c.in_default.is) c.none.ensures
 
 pub slice_bounds-read_fields-end : goal.slice_bounds-read_fields-end
 slice_bounds-read_fields-end c =
     let area = c.args.area.now in
-    let p = line_inside area _ _ (sym c.Line-of.ensures ∙ c.in-At.is) in
+    let p = line_inside area _ _ (sym c.line_of-l.ensures ∙ c.in-At.is) in
     sym (length-take-le c.in-At.len area (omega (arith, p.before, p.inside)))
 
 pub returns : goal.returns
 returns c =
-    rw (← c.Line-of.ensures, c.l-1.given.1, c.read_fields-fields.ensures)
+    rw (← c.line_of-l.ensures, c.l-1.given.1, c.read_fields-fields.ensures)
