@@ -1,4 +1,6 @@
 // Opening a store: from any bytes to the newest chunk.
+#![tactic(auto)]
+
 mod header;
 
 ghost use Rattle.std.specs.Prelude.{◌≡◌};

@@ -1,3 +1,6 @@
+use Prim.Native.Nat.{ℕ}
+use mathlib.Core.Bool.{Bool}
+use Rattle.chunk.specs.declared.image.Reading.{Reading}
 use native.Mathlib.Omega.{arith}
 use mathlib.Core.Path.{◌≡◌, sym, ◌∙◌}
 use Rattle.chunk.specs.Chunk.{needed, fitting}
@@ -27,35 +30,18 @@ returns-else-has_needed c =
     c.if-has_needed.false))
 
 -- the test of the header, as the definition makes it
-fit : (c : tie.After-fits2) →
-    fitting
-    (blocks_in c.before.before.before.before.before.before.before.before.args.image.now)
-    c.before.before.before.before.before.before.before.before.args.b
-    c.before.before.before.chunk-line.result ≡
-    c.fits2.result
-fit c = rw (← c.before.before.before.before.before.before.blocks-in.ensures, ← c.fits2.ensures)
-
--- a header that fits
-fitted : (c : goal.Then-fits) →
-    Fits
-    (blocks_in c.args.image.now)
-    c.args.b
-    c.chunk_line-r.result
-fitted c =
-    let c4 = c in
-    let c9 = c4.before.before.before.before.before in
-    let a = c9.args in
-    fitting_fits (blocks_in a.image.now) a.b c4.chunk-line.result (fit c ∙ c.if-fits.true)
+fit : {blocks : ℕ} (b : ℕ) (r : Reading) {bs : ℕ} {f : Bool} → bs ≡ blocks → f ≡ fitting bs b r → fitting blocks b r ≡ f
+fit b r e f = rw (← e, ← f)
 
 pub returns-else-fits : goal.returns-else-fits
 returns-else-fits c =
     let a = c.args in
-    sym (said_unfit a.image.now a.b (rw (← c.chunk_line-r.ensures) (fit c ∙ c.if-fits.false)))
+    sym (said_unfit a.image.now a.b (rw (← c.chunk_line-r.ensures) (fit a.b c.chunk_line-r.result c.blocks_in-blocks.ensures c.fits.ensures ∙ c.if-fits.false)))
 
 pub chunk_of-requires : goal.chunk_of-requires
 chunk_of-requires c =
     let a = c.args in
-    let f = fitted c in
+    let f = fitting_fits (blocks_in a.image.now) a.b c.chunk_line-r.result (fit a.b c.chunk_line-r.result c.blocks_in-blocks.ensures c.fits.ensures ∙ c.if-fits.true) in
     record {
       id_small = f.id_small;
       len_small = omega (arith, f.inside, blocks_most a.image.now);
@@ -68,7 +54,7 @@ returns c =
     let full : needed (chunk_line a.image.now a.b) ≡ true =
     rw (← c.chunk_line-r.ensures, ← c.has_needed.ensures) c.if-has_needed.true in
     let fits : fitting (blocks_in a.image.now) a.b (chunk_line a.image.now a.b) ≡ true =
-    rw (← c.chunk_line-r.ensures) (fit c ∙ c.if-fits.true) in
+    rw (← c.chunk_line-r.ensures) (fit a.b c.chunk_line-r.result c.blocks_in-blocks.ensures c.fits.ensures ∙ c.if-fits.true) in
     rw (
       said_fit a.image.now a.b c.if-b-lt2.false full fits,
       ← c.chunk_line-r.ensures,

@@ -15,4 +15,4 @@ slice_bounds-read_fields-end c =
 
 pub returns : goal.returns
 returns c =
-    rw (← c.line_of-l.ensures, c.l-1.given.1, c.read_fields-fields.ensures)
+    rw (← c.line_of-l.ensures, c.in-At.is, c.read_fields-fields.ensures)

@@ -16,18 +16,18 @@ slice_bounds-right_sum-end c =
 pub slice_bounds-read_fields-end : goal.slice_bounds-read_fields-end
 slice_bounds-read_fields-end c =
     let area = c.args.area.now in
-    let p = line_inside area _ _ (sym c.line_of-l.ensures ∙ c.l-1.given.1) in
-    sym (length-take-le c.l-1.given.0.0 area (omega (arith, p.before, p.inside)))
+    let p = line_inside area _ _ (sym c.line_of-l.ensures ∙ c.in-At.is) in
+    sym (length-take-le c.in-At.len area (omega (arith, p.before, p.inside)))
 
 pub returns-then-right_sum : goal.returns-then-right_sum
 returns-then-right_sum c =
-    rw (← c.line_of-l.ensures, c.l-1.given.1, ← c.right_sum.ensures, c.if-right_sum.true, c.read_fields-fields.ensures)
+    rw (← c.line_of-l.ensures, c.in-At.is, ← c.right_sum.ensures, c.if-right_sum.true, c.read_fields-fields.ensures)
 
 pub returns-else-right_sum : goal.returns-else-right_sum
 returns-else-right_sum c =
     rw (
       ← c.line_of-l.ensures,
-      c.l-1.given.1,
+      c.in-At.is,
       ← c.right_sum.ensures,
       c.if-right_sum.false,
     )
