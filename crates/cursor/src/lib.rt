@@ -1,4 +1,6 @@
 // The walk's state, and what one page says to a walk: what follows a number there, and what is first.
+#![tactic(auto)]
+
 mod follow;
 
 ghost use Rattle.std.specs.Prelude.{◌≡◌, true, drop, length};

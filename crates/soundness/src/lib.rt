@@ -1,4 +1,6 @@
 // What one page adds to an examination: a leaf's report, and the children of an inner page.
+#![tactic(auto)]
+
 ghost use Rattle.std.specs.Prelude.{◌≡◌};
 ghost use Rattle.tree.specs.Examination.{nothing};
 ghost use Rattle.soundness.specs.Examining.{figures, leaf_of, part_of, recorded_at, separator_at, child_of};

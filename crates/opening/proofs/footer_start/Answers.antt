@@ -1,3 +1,10 @@
+use Prim.Native.Nat.{ℕ}
+use mathlib.Core.List.{List}
+use mathlib.Core.Bool.{Bool, true}
+use Rattle.fletcher.specs.declared.Edition.{Edition}
+use Rattle.chunk.specs.declared.image.Reading.{Reading}
+use Rattle.chunk.specs.Image.{blocks_in, footer_line}
+use Rattle.chunk.specs.Names.{given_at, value_at}
 use mathlib.Core.Path.{◌≡◌, sym, ◌∙◌}
 use Rattle.text.specs.Text.{same}
 use Rattle.line.specs.Reading.{number_of, slot_of}
@@ -13,38 +20,26 @@ returns-else-gives c =
     rw (← c.blocks_in-blocks.ensures, ← c.footer_line-r.ensures, ← c.gives.ensures, c.if-gives.false)
 
 -- what is left once the footer names a block
-named : (c : goal.After-said_at-s) →
-    let a = c.args in
-    footer_start a.image.now a.edition ≡
-    kept (ends_at c.blocks_in-blocks.result) (stands_at a.image.now a.edition c.value.result)
+named : (image : List ℕ) (e : Edition) {blocks v : ℕ} {r : Reading} {g : Bool} → blocks ≡ blocks_in image → r ≡ footer_line image e blocks →
+    g ≡ given_at r.fields 3 → g ≡ true → v ≡ value_at r.fields 3 →
+    footer_start image e ≡ kept (ends_at blocks) (stands_at image e v)
 unfolding footer_start slot_of number_of same
-named c =
-    let c3 = c in
-    rw (
-      ← c3.before.before.blocks-in.ensures,
-      ← c3.before.footer-line.ensures,
-      ← c3.gives.ensures,
-      c.if-gives.true,
-      ← c.value.ensures,
-    )
+named image e b f g t v = rw (← b, ← f, ← g, t, ← v)
 
 pub returns-in_default : goal.returns-in_default
 returns-in_default c =
-    let c2 = c in
-    rw (named c2, stands_unsaid _ _ _ (sym c.said_at-s.ensures ∙ c.in_default.is))
+    rw (named c.args.image.now c.args.edition c.blocks_in-blocks.ensures c.footer_line-r.ensures c.gives.ensures c.if-gives.true c.value.ensures, stands_unsaid _ _ _ (sym c.said_at-s.ensures ∙ c.in_default.is))
 
 pub returns-else-c-blocks : goal.returns-else-c-blocks
 returns-else-c-blocks c =
-    let c6 = c in
     let a = c.args in
-    rw (named c6, stands_footed a.image.now _ (sym c.said_at-s.ensures ∙ c.in-Stands.is) a.edition, footed_elsewhere a.image.now a.edition c.in-Stands.c c.blocks_in-blocks.result c.if-c-blocks.false)
+    rw (named c.args.image.now c.args.edition c.blocks_in-blocks.ensures c.footer_line-r.ensures c.gives.ensures c.if-gives.true c.value.ensures, stands_footed a.image.now _ (sym c.said_at-s.ensures ∙ c.in-Stands.is) a.edition, footed_elsewhere a.image.now a.edition c.in-Stands.c c.blocks_in-blocks.result c.if-c-blocks.false)
 
 pub returns-then-is_footer : goal.returns-then-is_footer
 returns-then-is_footer c =
-    let c8 = c in
     let a = c.args in
     rw (
-      named c8,
+      named c.args.image.now c.args.edition c.blocks_in-blocks.ensures c.footer_line-r.ensures c.gives.ensures c.if-gives.true c.value.ensures,
       stands_footed a.image.now _ (sym c.said_at-s.ensures ∙ c.in-Stands.is) a.edition,
       footed_ending a.image.now a.edition c.in-Stands.c c.blocks_in-blocks.result c.if-c-blocks.true,
       ← c.footer_line-r.ensures,
@@ -54,10 +49,9 @@ returns-then-is_footer c =
 
 pub returns-else-is_footer : goal.returns-else-is_footer
 returns-else-is_footer c =
-    let c8 = c in
     let a = c.args in
     rw (
-      named c8,
+      named c.args.image.now c.args.edition c.blocks_in-blocks.ensures c.footer_line-r.ensures c.gives.ensures c.if-gives.true c.value.ensures,
       stands_footed a.image.now _ (sym c.said_at-s.ensures ∙ c.in-Stands.is) a.edition,
       footed_ending a.image.now a.edition c.in-Stands.c c.blocks_in-blocks.result c.if-c-blocks.true,
       ← c.footer_line-r.ensures,

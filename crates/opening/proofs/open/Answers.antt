@@ -1,3 +1,10 @@
+use mathlib.Core.List.{List}
+use Prim.Native.Nat.{ℕ}
+use mathlib.Core.Bool.{Bool, true}
+use Rattle.fletcher.specs.declared.Edition.{Edition}
+use Rattle.opening.specs.declared.header.Copy.{Copy}
+use Rattle.chunk.specs.Image.{size_right}
+use Rattle.opening.specs.Opening.{header_of, good}
 use mathlib.Core.Bool.{cond}
 use mathlib.Core.Path.{◌≡◌, sym, ◌∙◌}
 use Rattle.opening.specs.Opening.{header_start, footer_start, higher, newest_from, opened}
@@ -13,29 +20,19 @@ returns-then-blocks_in-eq0 c =
     rw (size_wrong a.image.now (sym c.blocks_in.ensures ∙ c.if-blocks_in-eq0.true), c.new.ensures)
 
 -- what is left once the size is right
-sized : (c : goal.After-is_good) →
-    let a = c.args in
-    opened a.image.now a.edition ≡
-    cond c.is_good.result
-    (newest_from a.image.now a.edition
-    (higher (header_start a.image.now a.edition c.header_of-copy.result) (footer_start a.image.now a.edition)))
-    (Refused no_header)
+sized : (image : List ℕ) (e : Edition) {copy : Copy} {g : Bool} → size_right image ≡ true → copy ≡ header_of image e → g ≡ good copy →
+    opened image e ≡
+    cond g (newest_from image e (higher (header_start image e copy) (footer_start image e))) (Refused no_header)
 unfolding opened
-sized c =
-    let c3 = c in
-    rw (
-      size_right_lem c3.before.before.args.image.now (λ e. c.if-blocks_in-eq0.false (c3.blocks-in.ensures ∙ e)),
-      ← c.header_of-copy.ensures,
-      ← c.is_good.ensures,
-    )
+sized image e s h g = rw (s, ← h, ← g)
 
 pub returns-else-is_good : goal.returns-else-is_good
-returns-else-is_good c = rw (sized c, c.if-is_good.false, c.new-else-is_good.ensures)
+returns-else-is_good c = rw (sized c.args.image.now c.args.edition (size_right_lem c.args.image.now (λ e. c.if-blocks_in-eq0.false (c.blocks_in.ensures ∙ e))) c.header_of-copy.ensures c.is_good.ensures, c.if-is_good.false, c.new-else-is_good.ensures)
 
 pub returns : goal.returns
 returns c =
     rw (
-      sized c,
+      sized c.args.image.now c.args.edition (size_right_lem c.args.image.now (λ e. c.if-blocks_in-eq0.false (c.blocks_in.ensures ∙ e))) c.header_of-copy.ensures c.is_good.ensures,
       c.if-is_good.true,
       ← c.header_start-by_header.ensures,
       ← c.footer_start-by_footer.ensures,
