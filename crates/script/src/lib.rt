@@ -1,5 +1,7 @@
 // How the programs read their input: lines, the words of a line, and what a word is as a number or as
 // bytes. Nothing here refuses: what is missing is empty, what does not fit is lost.
+#![tactic(auto)]
+
 ghost use Rattle.std.specs.Prelude.{◌%◌, ◌<◌, min, ◌≡◌, drop};
 ghost use Rattle.script.specs.Script.{up_to, line_at, next_line, word_of, named, digit_of, with_digit, number_in, byte_of, fitting, area_after, Holds};
 

@@ -1,8 +1,8 @@
 use mathlib.Core.Path.{refl, sym, ◌∙◌}
-use mathlib.Core.Logic.{⊎_elim}
 use native.Mathlib.Omega.{arith}
 use Rattle.memory.specs.WayLaws.{sought_none, sought_met, sought_above, sought_below}
 use Rattle.memory.proofs.seek.Goals as goal
+use Rattle.memory.proofs.seek.Goals.{then-is_below, else-is_below}
 
 pub loop-left-init : goal.loop-left-init
 loop-left-init c = (omega arith, refl)
@@ -18,20 +18,20 @@ loop-left-preserved c =
     let a = c.args in
     let l = c.loop-left in
     let below = c.is_below.ensures in
-    ⊎_elim
-    (λ t. (
-      omega arith,
-      rw (t.1, t.2)
-          (sym (sought_above a.memory.now a.c l.left l.low l.high (omega arith) (omega arith) (sym below ∙ t.0.taken)) ∙
-          l.invariant.1),
-    ))
-    (λ t. (
-      omega arith,
-      rw (t.1, t.2)
-          (sym (sought_below a.memory.now a.c l.left l.low l.high (omega arith) (omega arith) (sym below ∙ t.0.left)) ∙
-          l.invariant.1),
-    ))
-    c.if-is_below.branch
+    elim c.if-is_below.branch [
+      | then-is_below w ↦ (
+        omega arith,
+        rw (w.low-is, w.high-is)
+            (sym (sought_above a.memory.now a.c l.left l.low l.high (omega arith) (omega arith) (sym below ∙ w.if-is_below.true)) ∙
+            l.invariant.1),
+      )
+      | else-is_below w ↦ (
+        omega arith,
+        rw (w.low-is, w.high-is)
+            (sym (sought_below a.memory.now a.c l.left l.low l.high (omega arith) (omega arith) (sym below ∙ w.if-is_below.false)) ∙
+            l.invariant.1),
+      )
+    ]
 
 pub returns : goal.returns
 returns c =
