@@ -1,5 +1,7 @@
 // What the metadata's answers say: of a chunk, where it stands; of a map, its id and its root. And one
 // page of a descent, which asks the metadata or any other map.
+#![tactic(auto)]
+
 mod descent;
 mod keys;
 
