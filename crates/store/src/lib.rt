@@ -1,5 +1,7 @@
 // A store that is open: where chunks are, a map's id and root, and what is asked of a map. Locating a
 // chunk asks the metadata, whose pages stand in chunks that may have to be located first.
+#![tactic(auto)]
+
 mod ask;
 mod down;
 mod examining;

@@ -1,0 +1,26 @@
+use Rattle.store.specs.AskLaws.{count_empty, count_root}
+use Rattle.position.specs.Laws.{empty_zero, full_other}
+use Rattle.store.proofs.ask.count_from.Goals as goal
+
+pub returns-then-is_empty : goal.returns-then-is_empty
+returns-then-is_empty c =
+    let a = c.args in
+    count_empty a.image.now a.m.store a.m.id a.m.kind a.root.bits (empty_zero c.is_empty.ensures c.if-is_empty.true)
+
+pub read_page-j-requires : goal.read_page-j-requires
+read_page-j-requires c = c.requires
+
+pub returns-in-Refused : goal.returns-in-Refused
+returns-in-Refused c =
+    let a = c.args in
+    count_root a.image.now a.m.store a.m.id a.m.kind a.root.bits (full_other c.is_empty.ensures c.if-is_empty.false) c.read_page-j.ensures.1 c.in-Refused.is
+
+pub returns-in-Leaf : goal.returns-in-Leaf
+returns-in-Leaf c =
+    let a = c.args in
+    count_root a.image.now a.m.store a.m.id a.m.kind a.root.bits (full_other c.is_empty.ensures c.if-is_empty.false) c.read_page-j.ensures.1 c.in-Leaf.is
+
+pub returns-in-Inner : goal.returns-in-Inner
+returns-in-Inner c =
+    let a = c.args in
+    count_root a.image.now a.m.store a.m.id a.m.kind a.root.bits (full_other c.is_empty.ensures c.if-is_empty.false) c.read_page-j.ensures.1 c.in-Inner.is
