@@ -3,6 +3,8 @@
 //
 // A question is a line: a name and its arguments, with one space before each. Byte strings are two
 // hex digits a byte, `-` for none; numbers are hex. Each question gets one line as its answer.
+#![tactic(auto)]
+
 mod keys;
 mod lines;
 mod numbers;
