@@ -7,6 +7,7 @@ use Rattle.store.specs.WayLaws.{going_root, going_refused, going_entry, going_ov
 use Rattle.store.specs.WayLaws.{entry_few, child_few}
 use borrow.Author.Rules.{rules}
 use Rattle.store.proofs.down.down_by.Goals as goal
+use Rattle.store.proofs.down.down_by.Goals.{in-Last, in-Child}
 
 pub loop-level-init : goal.loop-level-init
 loop-level-init c =
@@ -99,14 +100,14 @@ loop-level-preserved c =
     let after-at = c.after_at-a in
     let branch = c.match-a in (
       r.ensures.0,
-      ⊎_elim
-          (λ w. rw (w.3, w.4, w.5, w.6)
-          (going_last a.image.now a.m.store a.m.id a.m.kind a.w.places a.w.depth a.root.bits few most l.invariant.1
-          r.ensures.1 after-at.ensures w.1.given.1))
-          (λ w. rw (w.3, w.4, w.5, w.6)
-          (going_child a.image.now a.m.store a.m.id a.m.kind a.w.places a.w.depth a.root.bits few most l.invariant.1
-          r.ensures.1 after-at.ensures w.1.given.1))
-          branch.branch,
+      elim branch.branch [
+        | in-Last w ↦ rw (w.p-is, w.found-is, w.number-is, w.next-is)
+            (going_last a.image.now a.m.store a.m.id a.m.kind a.w.places a.w.depth a.root.bits few most l.invariant.1
+            r.ensures.1 after-at.ensures w.in-Last.is)
+        | in-Child w ↦ rw (w.p-is, w.found-is, w.number-is, w.next-is)
+            (going_child a.image.now a.m.store a.m.id a.m.kind a.w.places a.w.depth a.root.bits few most l.invariant.1
+            r.ensures.1 after-at.ensures w.in-Child.is)
+      ],
       search rules,
     )
 

@@ -6,6 +6,7 @@ use Rattle.store.specs.WayLaws.{lefting_start, lefting_deep, lefting_refused, le
 use Rattle.store.specs.WayLaws.{lefting_empty, lefting_last, lefting_child}
 use borrow.Author.Rules.{rules}
 use Rattle.store.proofs.down.leftmost_from.Goals as goal
+use Rattle.store.proofs.down.leftmost_from.Goals.{in-Last, in-Child}
 
 pub loop-depth-init : goal.loop-depth-init
 loop-depth-init c =
@@ -71,14 +72,14 @@ loop-depth-preserved c =
     let first_at = c.first_at-a in
     let branch = c.match-a in (
       r.ensures.0,
-      ⊎_elim
-          (λ w. rw w.3
-          (lefting_last a.image.now a.m.store a.m.id a.m.kind l.invariant.1 (omega arith) r.ensures.1 first_at.ensures
-          w.1.given.1))
-          (λ w. absurd
-          (lefting_child a.image.now a.m.store a.m.id a.m.kind l.invariant.1 (omega arith) r.ensures.1 first_at.ensures
-          w.1.given.1))
-          branch.branch,
+      elim branch.branch [
+        | in-Last w ↦ rw w.q-is
+            (lefting_last a.image.now a.m.store a.m.id a.m.kind l.invariant.1 (omega arith) r.ensures.1 first_at.ensures
+            w.in-Last.is)
+        | in-Child w ↦ absurd
+            (lefting_child a.image.now a.m.store a.m.id a.m.kind l.invariant.1 (omega arith) r.ensures.1 first_at.ensures
+            w.in-Child.is)
+      ],
       search rules,
     )
 

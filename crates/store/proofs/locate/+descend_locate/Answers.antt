@@ -15,12 +15,12 @@ use Rattle.store.proofs.locate.+descend_locate.Goals as goal
 pub descend-returns-then-is_empty : goal.descend-returns-then-is_empty
 descend-returns-then-is_empty t c =
     let a = c.args in
-    (c.requires.1.1, sought_empty a.image.now a.m.store a.m.id a.m.kind a.root.bits (key_of a.m.kind a.key.now) a.q (empty_zero c.is_empty.ensures c.if-is_empty.true))
+    (c.requires.1, sought_empty a.image.now a.m.store a.m.id a.m.kind a.root.bits (key_of a.m.kind a.key.now) a.q (empty_zero c.is_empty.ensures c.if-is_empty.true))
 
 pub descend-loop-left-init : goal.descend-loop-left-init
 descend-loop-left-init t c =
     let a = c.args in
-    (c.requires.1.1, came_root a.image.now a.m.store a.m.id a.m.kind a.root.bits (key_of a.m.kind a.key.now) a.q (full_other c.is_empty.ensures c.if-is_empty.false), refl)
+    (c.requires.1, came_root a.image.now a.m.store a.m.id a.m.kind a.root.bits (key_of a.m.kind a.key.now) a.q (full_other c.is_empty.ensures c.if-is_empty.false), refl)
 
 pub descend-returns-then-is_empty-2 : goal.descend-returns-then-is_empty-2
 descend-returns-then-is_empty-2 t c =
@@ -30,7 +30,7 @@ descend-returns-then-is_empty-2 t c =
 
 pub descend-locate-l-requires : goal.descend-locate-l-requires
 descend-locate-l-requires t c =
-    (omega (arith, c.requires.0), (omega (arith, c.requires.1.0), c.loop-left.invariant.0))
+    (omega arith, (omega (arith, c.requires.0), c.loop-left.invariant.0))
 
 pub descend-returns-in-Done : goal.descend-returns-in-Done
 descend-returns-in-Done t c =
@@ -53,24 +53,24 @@ descend-returns t c =
 pub locate-returns-then-c-newest : goal.locate-returns-then-c-newest
 locate-returns-then-c-newest t c =
     let a = c.args in
-    (c.requires.1.1, tells_newest a.image.now a.store a.q a.c c.if-c-newest.true c.place_of.result c.place_of.ensures)
+    (c.requires.1, tells_newest a.image.now a.store a.q a.c c.if-c-newest.true c.place_of.result c.place_of.ensures)
 
 pub locate-returns-then-q-need : goal.locate-returns-then-q-need
 locate-returns-then-q-need t c =
     let a = c.args in
-    let g = c.requires.1.1 in
-    (g, tells_few a.image.now a.store a.q a.c g (sym c.recall-r.ensures ∙ c.in-At.is) (omega (arith, c.if-q-need.true, c.requires.1.0)) c.new.ensures)
+    let g = c.requires.1 in
+    (g, tells_few a.image.now a.store a.q a.c g (sym c.recall-r.ensures ∙ c.in-At.is) (omega (arith, c.if-q-need.true, c.requires.0)) c.new.ensures)
 
 pub locate-returns-in-At : goal.locate-returns-in-At
 locate-returns-in-At t c =
     let a = c.args in
-    let g = c.requires.1.1 in
+    let g = c.requires.1 in
     (g, tells_recalled a.image.now a.store a.q a.c g (sym c.recall-r.ensures ∙ c.in-At.is) (omega (arith, c.if-q-need.false)))
 
 pub locate-returns-then-q-eq0 : goal.locate-returns-then-q-eq0
 locate-returns-then-q-eq0 t c =
     let a = c.args in
-    (c.requires.1.1, tells_ninth a.image.now a.store a.q a.c c.if-c-newest.false c.if-q-eq0.true c.new-then-q-eq0.ensures)
+    (c.requires.1, tells_ninth a.image.now a.store a.q a.c c.if-c-newest.false c.if-q-eq0.true c.new-then-q-eq0.ensures)
 
 pub locate-slice_bounds-bytes-end : goal.locate-slice_bounds-bytes-end
 locate-slice_bounds-bytes-end t c =
@@ -82,12 +82,12 @@ locate-slice_bounds-descend-end t c =
 
 pub locate-descend-f-requires : goal.locate-descend-f-requires
 locate-descend-f-requires t c =
-    (omega (arith, c.requires.0), (omega (arith, c.requires.1.0), rw c.metadata-m.ensures c.requires.1.1))
+    (omega arith, (omega (arith, c.requires.0), rw c.metadata-m.ensures c.requires.1))
 
 pub locate-settle-requires : goal.locate-settle-requires
 locate-settle-requires t c =
     let a = c.args in
-    omega (arith, sought_few a.image.now _ _ _ _ _ (a.q - 1) c.descend-f.result c.descend-f.ensures.1, c.requires.1.0)
+    omega (arith, sought_few a.image.now _ _ _ _ _ (a.q - 1) c.descend-f.result c.descend-f.ensures.1, c.requires.0)
 
 pub locate-returns : goal.locate-returns
 locate-returns t c =
@@ -95,4 +95,4 @@ locate-returns t c =
     let d = c.descend-f in
     let e = rw c.metadata-m.ensures at d.ensures in
     let key = c.chunk_key-key in
-    tells_settled a.image.now a.store a.q a.c _ d.result c.if-c-newest.false c.if-q-eq0.false c.requires.1.0 e.0 _ (rw key.ensures (padded_text 22 (chunk_key a.c))) e.1 c.settle.result _ c.settle.ensures.0 c.settle.ensures.1
+    tells_settled a.image.now a.store a.q a.c _ d.result c.if-c-newest.false c.if-q-eq0.false c.requires.0 e.0 _ (rw key.ensures (padded_text 22 (chunk_key a.c))) e.1 c.settle.result _ c.settle.ensures.0 c.settle.ensures.1

@@ -1,0 +1,20 @@
+-- The measure is twice the levels that are left, and one more for the children.
+use Rattle.std.proofs.Common.{◌≡◌, ◌+◌, ◌*◌, ◌-◌, length}
+use Rattle.store.specs.Memory.{RightWords}
+use Rattle.store.specs.CameLaws.{Came}
+use Rattle.store.proofs.examining.+examine_children_examine_page.Given as goal
+
+abbrev pub decreases-examine_children : goal.decreases-examine_children
+decreases-examine_children l = 2 * l.levels + 1
+
+abbrev pub decreases-examine_page : goal.decreases-examine_page
+decreases-examine_page l = 2 * l.levels
+
+abbrev pub invariant-examine_children-loop-sum : goal.invariant-examine_children-loop-sum
+invariant-examine_children-loop-sum l =
+    RightWords l.image l.m.store l.memory
+    × Came l.image l.m.store l.m.id l.m.kind l.levels l.page l.initial.lo l.hi l.j l.counts l.keys l.lo l.r
+    × (length l.memory ≡ length l.initial.memory)
+
+abbrev pub decreases-examine_children-loop-sum : goal.decreases-examine_children-loop-sum
+decreases-examine_children-loop-sum l = l.page.n - l.j
