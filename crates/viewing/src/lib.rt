@@ -1,4 +1,6 @@
 // The one opener: from an image and a view of it to the store that every call asks.
+#![tactic(auto)]
+
 ghost use Rattle.std.specs.Prelude.{◌≡◌};
 ghost use Rattle.viewing.specs.Viewing.{store_said, opened_in, opened_store};
 

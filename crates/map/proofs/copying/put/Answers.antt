@@ -1,0 +1,27 @@
+use Prim.Native.Nat.{◌-◌}
+use mathlib.Core.Path.{◌≡◌}
+use native.Mathlib.Omega.{arith}
+use lib.ListN.{drop, length-set, length-drop}
+use lib.Seq.{get_or-drop}
+use Rattle.map.specs.MapLaws.{put_more}
+use Rattle.map.proofs.copying.put.Goals as goal
+
+pub loop-i-preserved : goal.loop-i-preserved
+loop-i-preserved c =
+    let a = c.args in
+    let l = c.loop-i in
+    let s = drop a.at a.image.now in
+    let long = length-drop a.at a.image.now in (
+      omega arith,
+      rw length-set l.invariant.1,
+      rw (l.invariant.2, ← get_or-drop a.at a.image.now l.i 0) (put_more a.area.now s l.i (omega arith) (omega (arith, long))),
+    )
+
+pub shape_of-area : goal.shape_of-area
+shape_of-area c = c.loop-i.invariant.1
+
+pub returns : goal.returns
+returns c =
+    let l = c.loop-i in
+    let e : l.i ≡ c.args.len = omega arith in
+    rw (l.invariant.2, e)
