@@ -1,5 +1,7 @@
 // The examination of a map by its id and kind. specs/Demand3.antt says what it is worth: a map that it
 // passes answers every lookup, every index and the count as its entry list says.
+#![tactic(auto)]
+
 ghost use Rattle.std.specs.Prelude.{◌≡◌};
 ghost use Rattle.refusal.specs.Refusal.{ok};
 ghost use Rattle.soundness.specs.Examining.{examined_of};

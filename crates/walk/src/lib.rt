@@ -1,5 +1,7 @@
 // The walk of a map, by its id and kind: entries from left to right, one a step, from a state that the
 // caller keeps. A recorded answer is given again before anything is judged.
+#![tactic(auto)]
+
 ghost use Rattle.std.specs.Prelude.{◌≡◌};
 ghost use Rattle.text.specs.Text.{within};
 ghost use Rattle.tree.specs.Walk.{stop};
