@@ -1,5 +1,7 @@
 // The listing: reads an image from standard input, examines map `forces`, kind 0, and lists it in
 // decimal; or prints only `refused N`. The image is opened once, in the first edition, and walked once.
+#![tactic(auto)]
+
 use cursor::{Walk, Yield};
 use key::Kind;
 use metadata::Id;

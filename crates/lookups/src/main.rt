@@ -17,6 +17,8 @@
 //     page POSITION ID KIND the page due for a map of a kind, and its keys: `leaf N` or `inner N`
 //
 // An image's first line has its name; a question may also be answered by `refused N`.
+#![tactic(auto)]
+
 mod asking;
 mod making;
 mod output;

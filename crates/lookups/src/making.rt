@@ -7,7 +7,7 @@ pub const MOST_BYTES: usize = 573440;
 
 // The bytes of the image, and of the base; and the edition in which the image is opened, 1 where none
 // is named.
-#[derive(Drop)]
+#[derive(Clone, Copy)]
 pub struct Held {
     pub size: usize,
     pub kept: usize,

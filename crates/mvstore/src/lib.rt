@@ -1,6 +1,8 @@
 // The C interface, thin: each export answers one small struct by value. The refusal's number comes
 // first, 0 where there is an answer; everything else is 0 where document 01 says so. include/mvstore.h
 // declares it.
+#![tactic(auto)]
+
 mod answer;
 
 ghost use Rattle.std.specs.Prelude.{◌≡◌, length};
