@@ -13,7 +13,7 @@ pub even_alike : (s : List ℕ) → length s % 2 ≡ 0 → (t : Sums) → sums F
 unfolding sums
 even_alike [] h t = refl
 even_alike (x ∷ []) h t = absurd (omega arith)
-even_alike (high ∷ (low ∷ s)) h t = even_alike s (omega arith) (add_word t (high * 256 + low))
+even_alike (high ∷ (low ∷ s)) h t = even_alike s (omega arith) _
 
 -- "the high half of a word whose low half is 0"
 pub odd_padded : (s : List ℕ) → length s % 2 ≡ 1 → (t : Sums) → sums Second t s ≡ sums First t (s ++ (0 ∷ []))

@@ -20,11 +20,6 @@ none_in-requires c =
     let full = rw c.in-Full.is at c.fill-f.ensures.1 in
     (omega (arith, full.after), full.inside, omega (arith, full.few))
 
-pub returns-else-none_in : goal.returns-else-none_in
-returns-else-none_in c =
-    let full = rw c.in-Full.is at c.fill-f.ensures.1 in
-    turning_stopped c.loop-next.invariant full c.none_in.ensures c.if-none_in.false
-
 pub loop-next-smaller : goal.loop-next-smaller
 loop-next-smaller c =
     let full = rw c.in-Full.is at c.fill-f.ensures.1 in
@@ -34,3 +29,8 @@ pub loop-next-preserved : goal.loop-next-preserved
 loop-next-preserved c =
     let full = rw c.in-Full.is at c.fill-f.ensures.1 in
     turning_on c.loop-next.invariant full c.none_in.ensures c.if-none_in.true c.fill-f.ensures.0
+
+pub returns-else-none_in : goal.returns-else-none_in
+returns-else-none_in c =
+    let full = rw c.in-Full.is at c.fill-f.ensures.1 in
+    turning_stopped c.loop-next.invariant full c.none_in.ensures c.if-none_in.false
