@@ -1,6 +1,6 @@
 -- Laws of the sums, which proofs cite in place of the definitions.
 use Prim.Native.Nat.{ℕ, suc, ◌+◌, ◌*◌, ◌≤◌, ◌<◌}
-use Rattle.std.specs.Prelude.{◌≡◌, refl, List, [], ◌∷◌, get_or, drop}
+use Rattle.std.specs.Prelude.{◌≡◌, List, get_or, drop}
 use Rattle.std.proofs.Math.Numerals.{add-one, add-two}
 use native.Mathlib.Omega.{arith}
 use Rattle.std.proofs.Math.ListN.{length, drop_of_length-le}

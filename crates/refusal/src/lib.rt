@@ -1,5 +1,7 @@
 // Document 01's table of refusals. A refusal is made here and nowhere else, so that what a later
 // request adds to it (a place, a chunk id) is added in one spot.
+#![tactic(auto)]
+
 ghost use Rattle.std.specs.Prelude.{◌≡◌};
 ghost use Rattle.refusal.specs.Refusal.{refusal};
 

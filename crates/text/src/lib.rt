@@ -1,4 +1,6 @@
 // Runs of bytes. Definitions and laws in specs/; here the searches and tests that code makes of them.
+#![tactic(auto)]
+
 ghost use Rattle.std.specs.Prelude.{◌+◌, ◌<◌, ◌≤◌, ◌≡◌, length, take, drop};
 ghost use Rattle.text.specs.Text.{bytes_at, span, is_not, is_letter, every, is_printable, same};
 

@@ -1,8 +1,5 @@
-use Prim.Native.Nat.{◌-◌, ◌≤◌}
 use mathlib.Core.Path.{refl, sym, ◌∙◌}
 use native.Mathlib.Omega.{arith}
-use lib.ListN.{length}
-use Rattle.names.specs.Tree.{is_in}
 use Rattle.names.specs.PartsLaws.{letters_inside, letters_every}
 use Rattle.names.specs.JudgeLaws.{looking_met, looking_right, looking_on}
 use Rattle.names.proofs.none_in.Goals as goal

@@ -1,4 +1,3 @@
-use Prim.Native.Nat.{◌-◌}
 use Rattle.names.specs.SeekLaws.{Seeking}
 use Rattle.names.proofs.tree.seek.Given as goal
 
