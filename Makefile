@@ -22,7 +22,7 @@ SECONDS = 60
 .PHONY: list test lib mvstore plotter install bench fuzz version
 
 # rt is asked each time, and proves again only what has changed; not where LIB is given, though it
-# be the same file.
+# be the same file. It makes a crate's archive or program in the crate's folder out/.
 ifeq ($(origin LIB), file)
 .PHONY: target/staticlib/libmvstore.a
 endif
@@ -30,8 +30,7 @@ endif
 # The listing takes edition 1 only. Its sample is tests/stores/bridge.mv, which H2 wrote, with the sums
 # of that edition.
 list:
-	rt check listing
-	target/bin/listing < crates/listing/stdin
+	cd crates/listing && rt run < stdin
 
 test:
 	.ci/run
@@ -39,7 +38,8 @@ test:
 lib: target/staticlib/libmvstore.a
 
 target/staticlib/libmvstore.a:
-	rt staticlib mvstore
+	cd crates/mvstore && rt lib
+	$(INSTALL) -D -p -m 644 crates/mvstore/out/libmvstore.a target/staticlib/libmvstore.a
 
 mvstore: target/mvstore
 
