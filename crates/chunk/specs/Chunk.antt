@@ -1,9 +1,9 @@
 -- When a chunk stands at a block, after document 01, "Opening".
 --
---   Chunk                       the struct: id, block, len (in blocks), first (where its pages may begin), next, root, version
---   needed r                    a chunk header's reading has all the fields that are needed
+--   Chunk                        the struct: id, block, len (in blocks), first (where its pages may begin), next, root, version
+--   needed r                     a chunk header's reading has all the fields that are needed
 --   said_at image b              the chunk that the header in block b says, whatever its footer is
---   footed image edition c      the chunk, if its footer is right and says the same chunk, block and version
+--   footed image edition c       the chunk, if its footer is right and says the same chunk, block and version
 --   with_footer image edition s  the same of a chunk that a header says
 --   stands_at image edition b    the chunk that stands at block b, if one does
 --   kept P s, has_id n           the chunk that stands, if P holds of it; a chunk's id is n

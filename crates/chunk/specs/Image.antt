@@ -1,13 +1,13 @@
 -- The image, its blocks and its lines, after document 01, "What is read" and "The text lines".
 --
---   blocks_of image       the number of whole blocks of the image
---   size_right image      3 to 268,435,456 blocks
---   blocks_in image       the number of blocks; 0 where the size is not right
---   Reading              what a line says, and where its newline stands in its area
---   gives, value, says   whether a reading has a field of a name, its value, and whether it has it with a value
---   header_line image edition c   a file header's line: copy c stands in block c
---   chunk_line image b            the line of the chunk header in block b
---   footer_line image edition e   the footer's line in the last 128 bytes before block e
+--   blocks_of image              the number of whole blocks of the image
+--   size_right image             3 to 268,435,456 blocks
+--   blocks_in image              the number of blocks; 0 where the size is not right
+--   Reading                      what a line says, and where its newline stands in its area
+--   gives, value, says           whether a reading has a field of a name, its value, and whether it has it with a value
+--   header_line image edition c  a file header's line: copy c stands in block c
+--   chunk_line image b           the line of the chunk header in block b
+--   footer_line image edition e  the footer's line in the last 128 bytes before block e
 -- The last three are all that opening reads of the image; a sum is right in an edition.
 use Rattle.std.specs.Prelude.{ℕ, ◌*◌, ◌-◌, ◌/◌, Bool, cond, ◌&&◌, List, eqb, length, take}
 use Rattle.text.specs.Text.{bytes_at, within}

@@ -1,13 +1,13 @@
 -- What a judged page holds, after document 01, "Positions and pages" and "Asking". s is the image up to the page's end; n items of a
 -- form from a place on.
 --
---   Entry                    an entry's key and value, by place and length
---   key_in s kind spot        the key at a spot
---   keys_in, positions_in, counts_in, entries_in    the keys, positions, recorded counts and entries of a page
---   page_of image kind j      the page as data, of what it was judged to be
---   page_in image c p map kind    the page at a position in a chunk: its refusal, or the page as data
---   pick j i ns              the child that has index i, by the recorded counts ns from number j on, and what is left of the index
---   probe_at s kind i k       the key at a place against the key k
+--   Entry                                         an entry's key and value, by place and length
+--   key_in s kind spot                            the key at a spot
+--   keys_in, positions_in, counts_in, entries_in  the keys, positions, recorded counts and entries of a page
+--   page_of image kind j                          the page as data, of what it was judged to be
+--   page_in image c p map kind                    the page at a position in a chunk: its refusal, or the page as data
+--   pick j i ns                                   the child that has index i, by the recorded counts ns from number j on, and what is left of the index
+--   probe_at s kind i k                           the key at a place against the key k
 use Rattle.std.specs.Prelude.{ℕ, ◌+◌, ◌-◌, List, [], ◌∷◌, map, true, false, cond, ltb, take, drop}
 use Rattle.std.proofs.Math.Option.{Option, none, some}
 use Rattle.refusal.specs.Refusal.{Outcome, ok, refuse}

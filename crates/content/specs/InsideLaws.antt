@@ -1,7 +1,7 @@
 -- What a page's entries are given by lies in the page, and so in the image.
 --
---   Inside s p         the bytes at the spot p all stand in s
---   EntryIn s kind x   the entry's key and value do, and its key is the one that stands there
+--   Inside s p        the bytes at the spot p all stand in s
+--   EntryIn s kind x  the entry's key and value do, and its key is the one that stands there
 use Prim.Native.Nat.{ℕ, zero, suc, ◌+◌, ◌≤◌}
 use Rattle.std.specs.Prelude.{◌≡◌, length, take, drop}
 use Rattle.std.proofs.Math.Path.{refl, ap}

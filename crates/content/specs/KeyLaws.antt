@@ -1,9 +1,9 @@
 -- A key among a page's keys: one step of each loop, of keys of either kind.
 --
---   Seen i next same                the key at place i is not greater than k; `same`: it is equal
---   Greater i                       the key at place i is greater than k
---   Leading left i passed answer    the answer of a loop that has passed so many keys, with `left` more of them from place i on
---   Finding left i j answer         the answer of a loop that looks among `left` keys from place i on, their values from place j on
+--   Seen i next same              the key at place i is not greater than k; `same`: it is equal
+--   Greater i                     the key at place i is greater than k
+--   Leading left i passed answer  the answer of a loop that has passed so many keys, with `left` more of them from place i on
+--   Finding left i j answer       the answer of a loop that looks among `left` keys from place i on, their values from place j on
 use Rattle.std.specs.Prelude.{ℕ, ◌+◌, ◌-◌, ◌≤◌, ◌<◌, ◌≡◌, ◌⊎◌, Bool, true, false, take, drop}
 use Rattle.std.proofs.Math.Path.{refl, ap}
 use Rattle.std.proofs.Common.{sym, ◌∙◌}

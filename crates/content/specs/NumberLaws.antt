@@ -1,6 +1,6 @@
 -- Children and entries by their number.
 --
---   entry_of k v    the entry with the key k and the value v
+--   entry_of k v  the entry with the key k and the value v
 use Prim.Native.Nat.{ℕ, zero, suc, ◌+◌, ◌*◌, ◌≤◌, ◌<◌}
 use Rattle.std.specs.Prelude.{◌≡◌, Bool, true, false, leb, length}
 use Rattle.std.proofs.Math.Path.{refl}

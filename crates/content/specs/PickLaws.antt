@@ -1,6 +1,6 @@
 -- The child that has an index: one step of the loop, and that it is the child which the tree's index takes.
 --
---   pick_from s n i sum j rest   the same from a recorded count at place i on, with the sum so far
+--   pick_from s n i sum j rest  the same from a recorded count at place i on, with the sum so far
 --   picked child ps o           what is asked of the child that was picked
 use Prim.Native.Nat.{ℕ, zero, suc, ◌+◌, ◌-◌, ◌≤◌, ◌<◌}
 use Rattle.std.specs.Prelude.{◌≡◌, Bool, cond, ltb, length, get_or, drop}

@@ -2,7 +2,7 @@
 --
 --   LeafWhole, InnerWhole    the lists are whole
 --   Whole image kind j       the same of what a page was judged to be
---   children_in s kind n ..   the children of an inner page, by the places of its parts
+--   children_in s kind n ..  the children of an inner page, by the places of its parts
 use Prim.Native.Nat.{ℕ, zero, suc, ◌+◌, ◌^◌, ◌≤◌, ◌<◌}
 use Rattle.std.specs.Prelude.{◌≡◌, take}
 use Rattle.std.proofs.Math.Path.{refl, ap}

@@ -4,7 +4,7 @@
 --   first_of .. j            the first child or entry of a page that is judged
 --   over_of found n p        what is next where a leaf has no entry more
 --   empty_step w             the step in an empty map
---   numbered from l n depth   the numbers before place l, then n, then zeros
+--   numbered from l n depth  the numbers before place l, then n, then zeros
 --   left_step w l n m        the step to the leftmost entry m under the page that place l leads to with number n
 use Rattle.std.specs.Prelude.{ℕ, ◌+◌, ◌-◌, Bool, true, false, cond, List, ◌∷◌, ◌++◌, eqb, ltb, leb, get_or, take, replicate}
 use Rattle.std.proofs.Math.Option.{Option, none, some}

@@ -1,12 +1,12 @@
 -- The walk's state and what a step makes of it, after document 01: "The walk yields entries left to right from a state of 16 places."
 --
---   fresh               the fresh state: all 0
---   numbers w           the numbers of a state that is formed as 01 says, or none
---   leading is          the state that these numbers make
---   closed w n          the same places and depth, with the last answer n
---   state_after w m      the state after w when m is next
---   settled w m         the step from w when m is next: that state, and the answer `yield_by m`
---   moved_by read root is    what is next after the numbers of a state, in the map whose root is given
+--   fresh                  the fresh state: all 0
+--   numbers w              the numbers of a state that is formed as 01 says, or none
+--   leading is             the state that these numbers make
+--   closed w n             the same places and depth, with the last answer n
+--   state_after w m        the state after w when m is next
+--   settled w m            the step from w when m is next: that state, and the answer `yield_by m`
+--   moved_by read root is  what is next after the numbers of a state, in the map whose root is given
 use Rattle.std.specs.Prelude.{ℕ, ◌-◌, Bool, true, ◌&&◌, List, [], ◌∷◌, ◌++◌, eqb, leb, length, take, drop, replicate}
 use Rattle.std.proofs.Math.Option.{Option, none, some}
 use Rattle.refusal.specs.Refusal.{Outcome, ok, refuse, unsound}

@@ -1,11 +1,11 @@
 -- Demand 3: "For any image that opens and any map in it: the examination passes exactly when 01 calls the map sound; and if it passes,
 -- lookup of any well-formed key, every index, and the count agree with the entry list that 01 defines from the leaves."
 --
---   Map image view map kind       what makes an id and a kind a map of an image that opens
---   entry_list m              its entry list
---   SoundMap m               01's "sound"
---   Passes image view map kind    the examination does not refuse
---   Answers m                lookup, index and count agree with the entry list
+--   Map image view map kind     what makes an id and a kind a map of an image that opens
+--   entry_list m                its entry list
+--   SoundMap m                  01's "sound"
+--   Passes image view map kind  the examination does not refuse
+--   Answers m                   lookup, index and count agree with the entry list
 -- The theorem is in Theorem.antt.
 use Rattle.std.specs.Prelude.{ℕ, ◌<◌, ◌≤◌, ◌≡◌, true, length}
 use Rattle.std.proofs.Math.Option.{Option, none, some}

@@ -1,6 +1,6 @@
 -- Demand 3 for images, from the theorem of the tree crate at an image's pages.
 --
---   demand3       the examination passes exactly the sound maps, and what it passes answers as its entry list
+--   demand3  the examination passes exactly the sound maps, and what it passes answers as its entry list
 use Rattle.std.specs.Prelude.{ℕ, ◌≡◌, ◌↔◌, true, List}
 use Rattle.std.proofs.Common.{sym, ◌∙◌}
 use Rattle.refusal.specs.Refusal.{Outcome}

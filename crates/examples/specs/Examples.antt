@@ -1,12 +1,12 @@
 -- Document 01's worked examples, "Proved examples": one statement over one list, about the definitions; and the sums of texts in
 -- both editions of request C-16.
 --
---   Answer           what a definition gives, of any sort
---   Example          what the definition gives, and what 01 says
---   examples         01's (a) to (j)
---   all_right        each gives what 01 says
---   editions         texts whose sums the editions take apart, and texts that sum the same in both
---   editions_right   each gives what was computed elsewhere
+--   Answer          what a definition gives, of any sort
+--   Example         what the definition gives, and what 01 says
+--   examples        01's (a) to (j)
+--   all_right       each gives what 01 says
+--   editions        texts whose sums the editions take apart, and texts that sum the same in both
+--   editions_right  each gives what was computed elsewhere
 use Rattle.std.specs.Prelude.{ℕ, ◌≡◌, refl, List, [], ◌∷◌, ◌++◌, replicate}
 use Rattle.std.proofs.Math.Option.{Option, none, some}
 use Rattle.order.specs.declared.Order.{Order}

@@ -1,7 +1,7 @@
 -- What the two editions share, shown for any text, as request C-16 of document 02 asks.
 --
---   even_alike    a text of even length sums the same in both
---   odd_padded    the second edition sums a text of odd length as the first sums it with a byte 0 after it
+--   even_alike  a text of even length sums the same in both
+--   odd_padded  the second edition sums a text of odd length as the first sums it with a byte 0 after it
 use Rattle.std.specs.Prelude.{ℕ, ◌+◌, ◌*◌, ◌%◌, ◌≡◌, refl, List, [], ◌∷◌, ◌++◌, length}
 use Rattle.std.proofs.Common.{add-zero, arith}
 use Rattle.fletcher.specs.declared.Edition.TheVariants.{First, Second}

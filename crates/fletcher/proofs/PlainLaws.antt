@@ -1,8 +1,8 @@
 -- That sums may be reduced late, which request C-15 of document 02 asks to be shown for any text.
 --
---   plain_rule     reduced at its end, the sums of a text are the rule's
---   within_360     from reduced sums both stay below 2^32 within 360 words
---   most_reached   361 words can take the second sum past it; odd_reached: 360 and an odd byte
+--   plain_rule    reduced at its end, the sums of a text are the rule's
+--   within_360    from reduced sums both stay below 2^32 within 360 words
+--   most_reached  361 words can take the second sum past it; odd_reached: 360 and an odd byte
 use Rattle.std.specs.Prelude.{ℕ, zero, suc, ◌+◌, ◌*◌, ◌-◌, ◌%◌, ◌≤◌, ◌<◌, ◌≡◌, refl, List, [], ◌∷◌, Bool, true, false, cond, eqb, length, get_or, drop, replicate}
 use Rattle.std.proofs.Common.{sym, ◌∙◌, subst, add-one, arith, eqb-true}
 use Rattle.std.proofs.lemmas.Bool.{eqb-false}

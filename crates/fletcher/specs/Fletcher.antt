@@ -1,11 +1,11 @@
 -- Sums, after document 01, "The text lines", and request C-16 of document 02. Their sentences stand above what they define.
 --
---   Edition         how an odd last byte counts: First as in 01, Second as in C-16
---   reduced x       x modulo 65535, with 65535 for 0
---   start           both running sums before the first word
+--   Edition          how an odd last byte counts: First as in 01, Second as in C-16
+--   reduced x        x modulo 65535, with 65535 for 0
+--   start            both running sums before the first word
 --   add_word t w     both running sums after one word more
 --   odd_byte e t x   both running sums after an odd last byte x
---   sums e t s      both running sums after the text s
+--   sums e t s       both running sums after the text s
 --   fletcher_of e s  the value that the field `fletcher` has over the text s
 use Rattle.std.specs.Prelude.{ℕ, ◌+◌, ◌*◌, ◌%◌, List, [], ◌∷◌, cond, eqb}
 use Rattle.fletcher.specs.declared.Edition.{Edition}

@@ -2,8 +2,8 @@
 --
 --   added t w       both running sums after one word more, not reduced
 --   plain e t s     both running sums after the text s, not reduced
---   words_in e s     how many words the text s has
---   both_reduced t   both sums, reduced
+--   words_in e s    how many words the text s has
+--   both_reduced t  both sums, reduced
 --   InRange x       x is 1 to 65535, as reducing leaves a sum
 --   Reduced t       both sums are in that range
 --   Fits t          both sums are below 2^32

@@ -1,6 +1,6 @@
 -- Laws of recorded counts: one step of summing several, and one count by its number.
 --
---   Summing s left i sum answer    the answer of a loop that has `left` counts to add from place i on, with the sum so far
+--   Summing s left i sum answer  the answer of a loop that has `left` counts to add from place i on, with the sum so far
 use Prim.Native.Nat.{ℕ, ◌+◌, ◌-◌, ◌≤◌, ◌<◌}
 use Rattle.std.proofs.Math.Path.{◌≡◌, refl, ap}
 use Rattle.std.proofs.Common.{sym, ◌∙◌, true≢false}

@@ -1,12 +1,12 @@
 -- The items of a page, after document 01, "Positions and pages". s is the image up to the page's end, so that no item reaches past
 -- the page and places in s are places in the image.
 --
---   Spot               bytes by place and length
---   item_at s form i    the item of a form at place i: a word of 8 bytes, a text key, or bytes (a value)
---   items s form       the items of a form as steps of a cursor
---   count_at s          recorded counts as steps of a cursor that has the sum so far
+--   Spot              bytes by place and length
+--   item_at s form i  the item of a form at place i: a word of 8 bytes, a text key, or bytes (a value)
+--   items s form      the items of a form as steps of a cursor
+--   count_at s        recorded counts as steps of a cursor that has the sum so far
 --   skipped s form n i the place after n items of a form
---   counted s n i      the sum of n recorded counts, and the place after them
+--   counted s n i  the sum of n recorded counts, and the place after them
 use Rattle.std.specs.Prelude.{ℕ, ◌+◌, ◌^◌, List, cond, ltb}
 use Rattle.std.proofs.Math.Option.{Option, none, some}
 use Rattle.numeral.specs.declared.Numeral.{Numeral}

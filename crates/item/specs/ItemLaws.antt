@@ -1,6 +1,6 @@
 -- Laws of a page's items: one step of passing several, one item by its number, and where an item lies.
 --
---   Skipping s f left i answer    the answer of a loop that has `left` items of a form to pass, from place i on
+--   Skipping s f left i answer  the answer of a loop that has `left` items of a form to pass, from place i on
 use Prim.Native.Nat.{ℕ, zero, suc, ◌+◌, ◌*◌, ◌-◌, ◌≤◌, ◌<◌}
 use Rattle.std.specs.Prelude.{◌≡◌, List, Bool}
 use Rattle.std.proofs.Math.Path.{refl, ap}

@@ -1,8 +1,8 @@
 -- Reading items one after another from a cursor. One kind of item is one function from a cursor to an item and the next cursor.
 --
---   Step A C          an item and the next cursor, or an item that can't be read
---   after read n c    the cursor after n items; none where one of them can't be read
---   up_to read n c     the n items themselves, up to the first that can't be read
+--   Step A C        an item and the next cursor, or an item that can't be read
+--   after read n c  the cursor after n items; none where one of them can't be read
+--   up_to read n c  the n items themselves, up to the first that can't be read
 use Rattle.std.specs.Prelude.{ℕ, zero, suc, List, [], ◌∷◌}
 use Rattle.std.proofs.Math.Option.{Option, none, some}
 

@@ -1,6 +1,6 @@
 -- Laws of reading items one after another, of any kind: one step, and one item by its number.
 --
---   on_some o stop go    what follows from an Option
+--   on_some o stop go  what follows from an Option
 use Prim.Native.Nat.{ℕ, zero, suc, ◌-◌, ◌≤◌, ◌<◌}
 use Rattle.std.specs.Prelude.{◌≡◌, get_or}
 use Rattle.std.proofs.Math.Path.{refl, ap}

@@ -2,10 +2,10 @@
 -- to 1,024 and bytes 32 to 126, ordered by byte, a beginning before its extension."
 --
 --   Key                 a key of either kind, as a value
---   key_of kind b        the key that the bytes b are
---   compare_keys a b     the one comparison
---   well_formed kind b   the bytes b are a well-formed key of the kind
---   key_at kind s i      the key at place i of s, by the place and length of its own bytes
+--   key_of kind b       the key that the bytes b are
+--   compare_keys a b    the one comparison
+--   well_formed kind b  the bytes b are a well-formed key of the kind
+--   key_at kind s i     the key at place i of s, by the place and length of its own bytes
 use Rattle.std.specs.Prelude.{ℕ, ◌+◌, Bool, cond, ◌&&◌, List, eqb, leb, ℤ, length, take, drop}
 use Rattle.std.specs.Int.{w64}
 use Rattle.std.proofs.Common.{to_z}

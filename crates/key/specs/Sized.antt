@@ -1,7 +1,7 @@
 -- Bytes after their length, after document 01, "Positions and pages": text keys are "a variable-size length up to 1,024 and bytes",
 -- values "a variable-size length up to 65,535, then bytes".
 --
---   sized_at limit s i    at place i of s: a length below the limit and so many bytes
+--   sized_at limit s i  at place i of s: a length below the limit and so many bytes
 use Rattle.std.specs.Prelude.{ℕ, ◌+◌, cond, List, leb, length}
 use Rattle.numeral.specs.declared.Numeral.{Numeral}
 use Rattle.numeral.specs.declared.Numeral.TheVariants as numeral

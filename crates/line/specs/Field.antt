@@ -1,8 +1,8 @@
 -- One field of a line, after document 01, "The text lines".
 --
---   Field                a name and its value
---   field_of part         the field that a part of a line is, if it is one
---   part_at line i        the field that the part from place i on is, by places of the line
+--   Field           a name and its value
+--   field_of part   the field that a part of a line is, if it is one
+--   part_at line i  the field that the part from place i on is, by places of the line
 use Rattle.std.specs.Prelude.{ℕ, suc, ◌+◌, cond, ◌&&◌, List, eqb, length, get_or, take, drop}
 use Rattle.std.proofs.Math.Option.{Option, none, some}
 use Rattle.text.specs.Text.{span, within, is_letter}

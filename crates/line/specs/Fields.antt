@@ -1,12 +1,12 @@
 -- The fields of a line, after document 01, "The text lines".
 --
---   has name fs          a field of fs has the name
---   value_in name fs      the value of the name in fs: none where no field has it
---   none_twice fs         no name occurs twice
---   fields_of line        the fields of a line; none where the line breaks a rule
---   right_sum e line      the last field is a right `fletcher` in the edition e
---   known                the names that the file's lines are asked for, in the order of their numbers
---   read_of line          what a line says of each known name; nothing where the line breaks a rule
+--   has name fs       a field of fs has the name
+--   value_in name fs  the value of the name in fs: none where no field has it
+--   none_twice fs     no name occurs twice
+--   fields_of line    the fields of a line; none where the line breaks a rule
+--   right_sum e line  the last field is a right `fletcher` in the edition e
+--   known             the names that the file's lines are asked for, in the order of their numbers
+--   read_of line      what a line says of each known name; nothing where the line breaks a rule
 use Rattle.std.specs.Prelude.{ℕ, zero, suc, Bool, true, false, cond, not, ◌&&◌, ◌||◌, List, [], ◌∷◌, map, eqb, length, get_or, take, drop, replicate}
 use Rattle.std.proofs.Math.Option.{Option, none, some}
 use Rattle.text.specs.Text.{same, split}

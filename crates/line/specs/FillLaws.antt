@@ -1,8 +1,8 @@
 -- Laws of what is read so far: one field more, and the fields of a line in their order.
 --
---   added acc f     what is read so far, and the field f
---   taken acc n     the name n is given already
---   fill acc fs     what is read so far, and the fields fs
+--   added acc f  what is read so far, and the field f
+--   taken acc n  the name n is given already
+--   fill acc fs  what is read so far, and the fields fs
 use Rattle.std.specs.Prelude.{ℕ, zero, suc, ◌≤◌, ◌<◌, ◌≡◌, Bool, not, ◌||◌, eqb, length, set, replicate}
 use Rattle.std.proofs.Math.Path.{refl, sym}
 use Rattle.std.proofs.Common.{◌∙◌, arith, length-set, get_or-set_same, get_or-set_other, ext_get_or}

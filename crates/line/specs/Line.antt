@@ -1,7 +1,7 @@
 -- Lines, after document 01, "The text lines": the line of an area.
 --
---   trimmed n s     how many of the first n bytes of s are left without trailing spaces
---   line_of area     the line of an area: its length, and the place of its newline
+--   trimmed n s   how many of the first n bytes of s are left without trailing spaces
+--   line_of area  the line of an area: its length, and the place of its newline
 use Rattle.std.specs.Prelude.{ℕ, zero, suc, cond, List, eqb, ltb, length, get_or}
 use Rattle.text.specs.Text.{span, is_not}
 use Rattle.line.specs.declared.Line.{Line}

@@ -1,12 +1,12 @@
 -- How a line is read in one pass: the words of the private contracts. What is right is said by Field.antt and Fields.antt; laws say
 -- that the two agree.
 --
---   number_of name names   the place of a name in a list of names; their count where it is not there
---   slot_of name           the number of a known name, 11 for any other
---   put acc slot v        what is read so far, and the value of the name numbered slot, if there is one
---   seen acc slot name parts   the name is given already; if it is not known, it is in the parts that follow
---   finish acc parts      what a line says of which acc is read and the parts are left
---   ends_right e line n    what follows the comma at n is a right `fletcher` in the edition e
+--   number_of name names      the place of a name in a list of names; their count where it is not there
+--   slot_of name              the number of a known name, 11 for any other
+--   put acc slot v            what is read so far, and the value of the name numbered slot, if there is one
+--   seen acc slot name parts  the name is given already; if it is not known, it is in the parts that follow
+--   finish acc parts          what a line says of which acc is read and the parts are left
+--   ends_right e line n       what follows the comma at n is a right `fletcher` in the edition e
 use Rattle.std.specs.Prelude.{ℕ, suc, Bool, true, false, cond, ◌&&◌, List, [], ◌∷◌, eqb, ltb, get_or, take, drop, set, replicate}
 use Rattle.text.specs.Text.{same}
 use Rattle.fletcher.specs.declared.Edition.{Edition}

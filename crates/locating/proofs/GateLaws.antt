@@ -1,6 +1,6 @@
 -- Answers that take a number of questions: `gate n r o` is refusal 6 where r is below n, and o elsewhere.
 --
---   gate-X, gated-X      one number of questions; every number of questions
+--   gate-X, gated-X  one number of questions; every number of questions
 use Rattle.std.specs.Prelude.{ℕ, suc, ◌<◌, ◌≤◌, max, ◌≡◌, refl, Bool, true, false, ltb}
 use Rattle.std.proofs.Common.{sym, ◌∙◌, ap, arith, ltb-true, ltb-false, lt-ltb, le-ltb}
 use Rattle.std.proofs.Math.Dec.{leb-suc-suc}

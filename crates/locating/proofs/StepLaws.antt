@@ -1,8 +1,8 @@
 -- One law for each branch of the code, with what is known for every number of questions.
 --
---   newest-X, ninth-X, asked-X, placed-X    a chunk: the newest; no question left; by a lookup that is refused, or by its answer
---   page-X                                  a page: at 0; its chunk refused or known
---   X-refused, X-reached, X-found           a descent ends with a refusal, goes on to a page, ends with an answer
+--   newest-X, ninth-X, asked-X, placed-X  a chunk: the newest; no question left; by a lookup that is refused, or by its answer
+--   page-X                                a page: at 0; its chunk refused or known
+--   X-refused, X-reached, X-found         a descent ends with a refusal, goes on to a page, ends with an answer
 use Prim.Native.Nat.{ℕ, zero, suc, ◌≤◌, max}
 use Rattle.std.specs.Prelude.{◌≡◌, List}
 use Rattle.std.proofs.Math.Path.{refl, ap}

@@ -1,13 +1,13 @@
 -- What is known for every number of questions: the words of the laws, and of `store`, whose code remembers where chunks are.
 --
---   Gated n f g                  f is g, once n questions were asked: with fewer than n it is refusal 6
---   Known m c l n                chunk c is at l, and locating it takes n questions
+--   Gated n f g    f is g, once n questions were asked: with fewer than n it is refusal 6
+--   Known m c l n  chunk c is at l, and locating it takes n questions
 --
 -- Of any map whose pages stand in located chunks and are read by page_in. The metadata's are m.page_in and m.root.
 --
---   read_with m page_in r p        the page at p, with r questions
---   asked_in m page_in root k r    the map's answer for the key k, with r questions
---   asked_below .. k levels p r   the same from the page at p down, with so many levels left
+--   read_with m page_in r p      the page at p, with r questions
+--   asked_in m page_in root k r  the map's answer for the key k, with r questions
+--   asked_below .. k levels p r  the same from the page at p down, with so many levels left
 --   CameTo .. k n levels p       the descent for k has come to p, and the pages so far take n questions
 use Rattle.std.specs.Prelude.{ℕ, ◌≡◌}
 use Rattle.std.proofs.Math.Option.{Option}

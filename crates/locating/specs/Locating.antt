@@ -2,13 +2,13 @@
 -- by a metadata lookup [..]. Such a lookup may need another chunk first. At most 8 of these questions are open at once. A refusal
 -- of such a lookup is handed up unchanged." Over any pages: what the metadata's keys, values and pages are is a parameter.
 --
---   Metadata          the parameters: the newest chunk and its place, the root, and how keys, values and pages are read
---   placed m c o      where the metadata's answer o says that chunk c stands
---   read_at chunk loc page p   the page at p: its chunk located by loc, the page there read by page
---   page_by m loc p    the metadata's page at p, its chunk located by loc
---   located m q c     where chunk c is, with q questions that may still be opened
---   asked m k q       the metadata's answer for the key k, with q questions that may still be opened
---   gate n r o        the answer o that takes n questions, asked with r of them
+--   Metadata                  the parameters: the newest chunk and its place, the root, and how keys, values and pages are read
+--   placed m c o              where the metadata's answer o says that chunk c stands
+--   read_at chunk loc page p  the page at p: its chunk located by loc, the page there read by page
+--   page_by m loc p           the metadata's page at p, its chunk located by loc
+--   located m q c             where chunk c is, with q questions that may still be opened
+--   asked m k q               the metadata's answer for the key k, with q questions that may still be opened
+--   gate n r o                the answer o that takes n questions, asked with r of them
 use Rattle.std.specs.Prelude.{ℕ, zero, suc, eqb, ltb}
 use Rattle.std.proofs.Math.Option.{Option, none, some}
 use Rattle.refusal.specs.Refusal.{Outcome, ok, refuse, bind, not_located, ninth_question, out_of_place}

@@ -1,8 +1,8 @@
 -- Laws of the public calls, one for each way that the code takes.
 --
---   asked-X           what an id and a kind that a caller gives are
---   asking-X          arguments, then opening, then the map
---   lookup-X, index-X, count-X, named-X, copy-X    the calls
+--   asked-X                                      what an id and a kind that a caller gives are
+--   asking-X                                     arguments, then opening, then the map
+--   lookup-X, index-X, count-X, named-X, copy-X  the calls
 use Prim.Native.Nat.{ℕ, zero, suc, ◌+◌, ◌≤◌, ◌<◌}
 use Rattle.std.specs.Prelude.{◌≡◌, true, false, List, ◌++◌, leb, ltb, ℤ, length, get_or, take, drop, set}
 use Rattle.std.proofs.Math.Path.{refl, ap}

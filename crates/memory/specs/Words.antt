@@ -5,24 +5,24 @@
 --     2i      26 chunk id, 28 block, 4 need (never 0, so that a free place is 0)
 --     2i+1    28 len, 32 first
 --
---   places ws                      how many chunks the words have room for: two words each
---   chunk_in w, place_in w v, need_in w    what two words hold
---   first_word, second_word          the words of a chunk
---   HeldIn ws c l need             some place of the words holds chunk c, that it stands at l, and that need
---   Holds P ws                     P is true of each chunk that the words hold, its place and its need
---   full_in ws                      the last place is taken, or there is no place
---   sought_in ws c                  a place that is free or holds a chunk whose id is not below c, by halving
---   recalled_in ws c                what is remembered of chunk c, or a place to put it
---   inserted_at ws i w v            two words put at place i, what was there and after it one place on
---   remembered_in ws c l need       the words with chunk c, where there is room
+--   places ws                            how many chunks the words have room for: two words each
+--   chunk_in w, place_in w v, need_in w  what two words hold
+--   first_word, second_word              the words of a chunk
+--   HeldIn ws c l need                   some place of the words holds chunk c, that it stands at l, and that need
+--   Holds P ws                           P is true of each chunk that the words hold, its place and its need
+--   full_in ws                           the last place is taken, or there is no place
+--   sought_in ws c                       a place that is free or holds a chunk whose id is not below c, by halving
+--   recalled_in ws c                     what is remembered of chunk c, or a place to put it
+--   inserted_at ws i w v                 two words put at place i, what was there and after it one place on
+--   remembered_in ws c l need            the words with chunk c, where there is room
 --
 -- That these say what a memory is for is stated in WordsLaws, of any words:
 --
---   recalled_was_held              what is recalled of a chunk, the words hold
---   remembered_keeps               what the words held, they hold with a chunk more
---   remembered_only_adds           they hold nothing else, but for that chunk
---   remembered_adds                and that chunk, where a place was offered for it
---   remembered_length              they are as many as before
+--   recalled_was_held     what is recalled of a chunk, the words hold
+--   remembered_keeps      what the words held, they hold with a chunk more
+--   remembered_only_adds  they hold nothing else, but for that chunk
+--   remembered_adds       and that chunk, where a place was offered for it
+--   remembered_length     they are as many as before
 use Rattle.std.specs.Prelude.{ℕ, zero, suc, ◌+◌, ◌*◌, ◌-◌, ◌/◌, ◌%◌, ◌<◌, ◌≡◌, Bool, true, false, cond, not, List, eqb, ltb, length, get_or, set}
 use Rattle.page.specs.declared.Place.{Place}
 use Rattle.memory.specs.declared.Recalled.{Recalled}

@@ -1,13 +1,13 @@
 -- What the metadata's answers say, after document 01, "Where a chunk is" and "Asking".
 --
---   value_bytes image spot   the bytes of the value at a spot
---   standing_by image edition n v    the chunk n that stands where the metadata value at v says, if it does
---   id_of, root_of            an id and a root by their hex digits
---   named_id, named_root      the same by the value that the metadata has for a key, or by none
---   need_of f                the questions that a lookup's answer took, 0 for a refusal
---   location_by image edition n f    where chunk n stands by the answer of its lookup, with the questions that the lookup took
---   located_by, value_by, id_by, root_by    the answers by a chunk's location, or by what a lookup answered
---   place_said, id_said, root_said  the answers of the code as outcomes
+--   value_bytes image spot                the bytes of the value at a spot
+--   standing_by image edition n v         the chunk n that stands where the metadata value at v says, if it does
+--   id_of, root_of                        an id and a root by their hex digits
+--   named_id, named_root                  the same by the value that the metadata has for a key, or by none
+--   need_of f                             the questions that a lookup's answer took, 0 for a refusal
+--   location_by image edition n f         where chunk n stands by the answer of its lookup, with the questions that the lookup took
+--   located_by, value_by, id_by, root_by  the answers by a chunk's location, or by what a lookup answered
+--   place_said, id_said, root_said        the answers of the code as outcomes
 use Rattle.std.specs.Prelude.{ℕ, cond, List}
 use Rattle.std.proofs.Math.Option.{Option, none, some}
 use Rattle.refusal.specs.Refusal.{Outcome, ok, refuse, not_located, no_such_name, not_a_number}

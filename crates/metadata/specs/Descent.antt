@@ -1,7 +1,7 @@
 -- One page of a descent, and a descent after it.
 --
---   step_of k o             what a page answers a lookup of k: a child's position, a value, Absent or its refusal
---   advance_of s need l     a descent after one page more: l says where the page's chunk is, s what the page there answers
+--   step_of k o          what a page answers a lookup of k: a child's position, a value, Absent or its refusal
+--   advance_of s need l  a descent after one page more: l says where the page's chunk is, s what the page there answers
 use Rattle.std.specs.Prelude.{ℕ, max}
 use Rattle.std.proofs.Math.Option.{Option, none, some}
 use Rattle.refusal.specs.Refusal.{Outcome, ok, refuse}

@@ -2,8 +2,8 @@
 --
 --   prefix_chunk, prefix_name, prefix_root    the fixed byte strings `chunk.`, `name.` and `root.`
 --   chunk_key n, name_key name, root_key map  the keys of a chunk's place, a map's id and a map's root
---   padded n s                             the text s in an array of n bytes: the bytes after it are 0
---   number_key s, long_key s                 a key with its length, in an array of 22 bytes and of 1,005
+--   padded n s                                the text s in an array of n bytes: the bytes after it are 0
+--   number_key s, long_key s                  a key with its length, in an array of 22 bytes and of 1,005
 use Rattle.std.specs.Prelude.{ℕ, ◌-◌, List, [], ◌∷◌, ◌++◌, length, replicate}
 use Rattle.numeral.specs.Hex.{hex_text}
 use Rattle.metadata.specs.declared.keys.NumberKey.{NumberKey}

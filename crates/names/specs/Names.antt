@@ -1,11 +1,11 @@
 -- The names of a line's parts, after document 01, "The text lines".
 --
---   part_from line i       the part of a line from place i to the next comma or the line's end
---   parts_after line at    the parts that follow the one that ends at place at
---   name_of part           the letters that a part begins with
---   named_in name parts    a part has the name
---   distinct parts        each part has a name of 1 to 16 letters, and no later part has it
---   distinct_names line    the parts of a line between its commas are distinct in this
+--   part_from line i     the part of a line from place i to the next comma or the line's end
+--   parts_after line at  the parts that follow the one that ends at place at
+--   name_of part         the letters that a part begins with
+--   named_in name parts  a part has the name
+--   distinct parts       each part has a name of 1 to 16 letters, and no later part has it
+--   distinct_names line  the parts of a line between its commas are distinct in this
 use Rattle.std.specs.Prelude.{ℕ, suc, Bool, true, false, cond, not, ◌&&◌, ◌||◌, List, [], ◌∷◌, ltb, length, take, drop}
 use Rattle.text.specs.Text.{span, within, is_not, is_letter, same, split}
 

@@ -1,14 +1,14 @@
 -- Hexadecimal numbers, after document 01, "The text lines": "1 to 16 digits 0-9a-f with no leading zero unless the value is `0`".
 --
---   digit_of b         the value of the digit b; 16 for any other byte
---   is_digit b         b is a digit
---   hex_value s        the value of a run of digits
---   shaped s          1 to 16 bytes, the first no `0` unless it is the only one
---   hex_of s           what the text s is as a number
---   hex_run_at s i      what the run of digits at place i of s is as a number, and the place after the run
---   hex_text n         the digits of n
---   digits_of n        the digits of n at the end of 16 bytes, after zeros, and the place where they begin
---   text_of d          the digits that `Digits` holds
+--   digit_of b      the value of the digit b; 16 for any other byte
+--   is_digit b      b is a digit
+--   hex_value s     the value of a run of digits
+--   shaped s        1 to 16 bytes, the first no `0` unless it is the only one
+--   hex_of s        what the text s is as a number
+--   hex_run_at s i  what the run of digits at place i of s is as a number, and the place after the run
+--   hex_text n      the digits of n
+--   digits_of n     the digits of n at the end of 16 bytes, after zeros, and the place where they begin
+--   text_of d       the digits that `Digits` holds
 use Rattle.std.specs.Prelude.{ℕ, zero, suc, ◌+◌, ◌*◌, ◌-◌, ◌/◌, ◌%◌, ◌<◌, ◌≡◌, Bool, cond, not, ◌&&◌, ◌||◌, List, [], ◌∷◌, ◌++◌, eqb, ltb, length, get_or, take, drop, replicate}
 use Rattle.text.specs.Text.{span, every, within}
 use Rattle.numeral.specs.declared.Numeral.{Numeral}

@@ -1,7 +1,7 @@
 -- Laws of digits and of the shape that a number has.
 --
---   Kind b      what a byte is: a decimal digit, a letter that is a digit, or neither
---   Shaped s    what `shaped s` says
+--   Kind b    what a byte is: a decimal digit, a letter that is a digit, or neither
+--   Shaped s  what `shaped s` says
 use Rattle.std.specs.Prelude.{ℕ, ◌+◌, ◌-◌, ◌<◌, ◌≤◌, ◌≡◌, Bool, cond, ◌&&◌, ◌||◌, List, ltb, length, get_or}
 use Rattle.std.proofs.Math.Path.{refl}
 use Rattle.std.proofs.Common.{◌∙◌, arith}

@@ -1,7 +1,7 @@
 -- Laws of a run of digits at a place of a text, as a loop goes through it.
 --
---   run s i            the run of digits at place i of s
---   Passed s at i v    the digits from `at` up to i are passed, with more to come perhaps; v is their value
+--   run s i          the run of digits at place i of s
+--   Passed s at i v  the digits from `at` up to i are passed, with more to come perhaps; v is their value
 use Prim.Native.Nat.{ℕ, suc, ◌+◌, ◌*◌, ◌-◌, ◌^◌, ◌<◌, ◌≤◌}
 use Rattle.std.specs.Prelude.{◌≡◌, refl, Bool, true, false, cond, ◌&&◌, List, [], ◌∷◌, eqb, get_or, take, drop}
 use Rattle.std.proofs.Common.{sym, ◌∙◌, zero-add, lt-ltb, eq-eqb, ne_eqb, eqb-true, length-take-le}

@@ -1,6 +1,6 @@
 -- Laws of the digits of a number as a loop writes them into an array, from its end.
 --
---   Writing n bytes start left    the digits from `start` on are written, and those of `left` come before them
+--   Writing n bytes start left  the digits from `start` on are written, and those of `left` come before them
 use Rattle.std.specs.Prelude.{ℕ, zero, suc, ◌-◌, ◌/◌, ◌%◌, ◌^◌, ◌<◌, ◌≤◌, ◌≡◌, refl, List, ◌∷◌, ◌++◌, length, take, drop, set, replicate}
 use Rattle.std.proofs.Common.{sym, ◌∙◌, ap, sub-one, arith, length-set, length-drop, take-append-drop, drop-cons, get_or-set_same, drop-set-lt, take-take}
 use Rattle.std.proofs.lemmas.List.{take-set-le}

@@ -2,10 +2,10 @@
 -- last byte, shortest form, below 2^31". The limit is a parameter: map id and key count are below 2^31, a text key's length
 -- is below 1,025, a value's below 65,536, a recorded count below 2^48.
 --
---   continued low r    a byte whose high bit is set and whose low 7 bits are `low`, before the number r
---   var_from i s        the number at the front of s, which begins at place i
---   limited limit r    the number r, if it is below the limit
---   var_at limit s i    the number at place i of s, if it is below the limit
+--   continued low r   a byte whose high bit is set and whose low 7 bits are `low`, before the number r
+--   var_from i s      the number at the front of s, which begins at place i
+--   limited limit r   the number r, if it is below the limit
+--   var_at limit s i  the number at place i of s, if it is below the limit
 use Rattle.std.specs.Prelude.{ℕ, ◌+◌, ◌*◌, ◌-◌, ◌^◌, ◌<◌, cond, List, [], ◌∷◌, eqb, ltb, drop}
 use Rattle.numeral.specs.declared.Numeral.{Numeral}
 use Rattle.numeral.specs.declared.Numeral.TheVariants.{Read, Bad}

@@ -1,8 +1,8 @@
 -- Laws of variable-size numbers.
 --
---   Below limit r      r is below the limit, if it is a number
---   Inside from to r   the place after r lies between the two, if it is a number
---   VarRead            what a caller knows of a number that was read
+--   Below limit r     r is below the limit, if it is a number
+--   Inside from to r  the place after r lies between the two, if it is a number
+--   VarRead           what a caller knows of a number that was read
 use Rattle.std.specs.Prelude.{ℕ, suc, ◌+◌, ◌*◌, ◌-◌, ◌/◌, ◌^◌, ◌<◌, ◌≤◌, ◌≡◌, refl, Bool, cond, List, [], ◌∷◌, eqb, length, get_or, drop}
 use Rattle.std.proofs.Common.{◌∙◌, arith, length-drop, drop_of_length-le, drop-cons}
 use Rattle.std.proofs.Math.Bool.{true, false}

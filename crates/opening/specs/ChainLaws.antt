@@ -1,7 +1,7 @@
 -- The chain ends: versions rise along it, so no block comes twice, and no image makes it longer than its blocks.
 --
---   counted s v                1 where a chunk stands that is newer than version v, else 0
---   above image edition v n    how many of the first n blocks hold a standing chunk that is newer than version v
+--   counted s v              1 where a chunk stands that is newer than version v, else 0
+--   above image edition v n  how many of the first n blocks hold a standing chunk that is newer than version v
 use Prim.Native.Nat.{ℕ, zero, suc, ◌+◌, ◌<◌, ◌≤◌}
 use Rattle.std.specs.Prelude.{◌≡◌, Bool, List}
 use Rattle.std.proofs.Math.Path.{refl}

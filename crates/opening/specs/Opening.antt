@@ -1,15 +1,15 @@
 -- Opening, after document 01, "Opening", in an edition of request C-16: from the image to the newest chunk.
 --
---   Copy                     what a good file header copy says: nothing more, or block, chunk and version
+--   Copy                      what a good file header copy says: nothing more, or block, chunk and version
 --   format_right r            a file header's reading says this format
---   names_all r, names_any r   it has all, or any, of block, chunk and version
+--   names_all r, names_any r  it has all, or any, of block, chunk and version
 --   copy_of r                 the good copy that it is, if it is one
---   counting a b             the copy that counts, of two
+--   counting a b              the copy that counts, of two
 --   header_start, footer_start the two starts
---   higher a b               the one that is taken
---   successor image edition c    the chunk at c's `next`, if it has a strictly higher version
---   chain image edition n c      the newest chunk from c on, in at most n steps
---   opened image edition         the newest chunk, or the refusal
+--   higher a b                 the one that is taken
+--   successor image edition c  the chunk at c's `next`, if it has a strictly higher version
+--   chain image edition n c    the newest chunk from c on, in at most n steps
+--   opened image edition       the newest chunk, or the refusal
 use Rattle.std.specs.Prelude.{ℕ, zero, suc, ◌+◌, Bool, true, false, cond, ◌&&◌, ◌||◌, List, eqb, ltb}
 use Rattle.refusal.specs.Refusal.{bad_image_size, no_header, no_start}
 use Rattle.fletcher.specs.declared.Edition.{Edition}

@@ -1,6 +1,6 @@
 -- The orders of document 01 are strict total orders: unsigned numbers, signed numbers, lists.
 --
---   by_test_order     of the comparison that a test gives
+--   by_test_order  of the comparison that a test gives
 --   nat_order, int_order, lex_order
 use Rattle.std.specs.Prelude.{ℕ, ◌<◌, ◌≡◌, refl, Bool, true, false, cond, List, [], ◌∷◌, ◌++◌, ltb, ℤ, pos, negsuc}
 use Rattle.std.proofs.Common.{ap, arith, ltb-true, ltb-false, lt-ltb, le-ltb}

@@ -1,14 +1,14 @@
 -- Strict total orders, given by a comparison with three answers.
 --
---   TotalOrder K cmp   cmp is a strict total order of K: four laws
---   Below cmp a b      a is below b
---   UpTo cmp a b       a is not above b
---   below cmp a b      the test of Below
---   turned o           the answer for the two arguments swapped
---   by_test lt          the comparison that a test "is below" gives
---   compare_nat         unsigned numbers; bytes
---   compare_int         signed numbers: kind 0 keys
---   lex cmp            lists by their elements, a beginning before its extension: kind 1 keys
+--   TotalOrder K cmp  cmp is a strict total order of K: four laws
+--   Below cmp a b     a is below b
+--   UpTo cmp a b      a is not above b
+--   below cmp a b     the test of Below
+--   turned o          the answer for the two arguments swapped
+--   by_test lt        the comparison that a test "is below" gives
+--   compare_nat       unsigned numbers; bytes
+--   compare_int       signed numbers: kind 0 keys
+--   lex cmp           lists by their elements, a beginning before its extension: kind 1 keys
 use Rattle.std.specs.Prelude.{ℕ, ◌≡◌, Bool, true, false, cond, List, [], ◌∷◌, ltb, ℤ}
 use Rattle.std.specs.Int.Signed.{lt_z}
 use Rattle.order.specs.declared.Order.{Order}

@@ -8,9 +8,9 @@
 --     ..      1     type: 0 leaf, 1 inner
 --     ..      ..    leaf: n keys, n values; inner: n+1 positions, n+1 recorded counts, n keys
 --
---   begins c o           a page may begin at offset o of the chunk c
+--   begins c o            a page may begin at offset o of the chunk c
 --   length_fits k n room  a page of length n fits its length code k and the room before the footer
---   leaf_at, inner_at      what follows the type byte of a leaf and of an inner page
+--   leaf_at, inner_at     what follows the type byte of a leaf and of an inner page
 --   body_at               what follows the type byte
 --   fields_at             the fields from the map id to the type byte
 --   head_at               the head of the page at a position in a chunk, due for a map: all that stands before its items

@@ -1,7 +1,7 @@
 -- What the tests of a page's place tell, and what its head tells of the page.
 --
---   Within m h         of a head that is not refused: its numbers, in an image of length m
---   head_body          a page's items begin inside the page, the page ends inside the image, and its keys are fewer than 2^31
+--   Within m h  of a head that is not refused: its numbers, in an image of length m
+--   head_body   a page's items begin inside the page, the page ends inside the image, and its keys are fewer than 2^31
 use Rattle.std.specs.Prelude.{ℕ, ◌+◌, ◌-◌, ◌^◌, ◌<◌, ◌≤◌, ◌≡◌, refl, List, Bool, true, false, cond, ◌&&◌, eqb, ltb, leb, get_or, take}
 use Rattle.std.proofs.Math.Bool.{and-false, and-eq-true_iff}
 use Rattle.std.proofs.Common.{arith}

@@ -1,7 +1,7 @@
 -- What is known of a page that is judged and not refused. s is the image up to its end.
 --
---   LeafPassed, InnerPassed    its parts follow one another, up to its end
---   Passed image kind j        the same of what a page was judged to be
+--   LeafPassed, InnerPassed  its parts follow one another, up to its end
+--   Passed image kind j      the same of what a page was judged to be
 use Rattle.std.specs.Prelude.{ℕ, zero, suc, ◌+◌, ◌^◌, ◌<◌, ◌≡◌, List, [], ◌∷◌, Bool, true, false, cond, eqb, length, take}
 use Rattle.std.proofs.Math.Path.{refl}
 use Rattle.std.proofs.Common.{ap, eqb-true}

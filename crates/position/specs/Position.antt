@@ -4,15 +4,15 @@
 --     BITS      63 .. 38    37 .. 6     5 .. 1    0
 --     FIELD     chunk id    offset      code      type: 0 leaf, 1 inner
 --
---   chunk_of p, offset_of p, code_of p, type_of p    the fields of the position p
---   of_bits p               the position of those bits, as the code hands it on
---   is_empty p              "Position 0 as a root is the empty map."
---   position_of c o k t     the position with those fields
---   made_of c o k t         the same, or out of range where a field is wider than its bits
---   bound_of k              the most bytes that the length code k allows
---   holds_length k n        n is within the bound of the code k
---   folded x               the upper 16 bits of x xor its lower 16 bits
---   check_of c o n          the check value of a page of length n at offset o of chunk c
+--   chunk_of p, offset_of p, code_of p, type_of p  the fields of the position p
+--   of_bits p                                      the position of those bits, as the code hands it on
+--   is_empty p                                     "Position 0 as a root is the empty map."
+--   position_of c o k t                            the position with those fields
+--   made_of c o k t                                the same, or out of range where a field is wider than its bits
+--   bound_of k                                     the most bytes that the length code k allows
+--   holds_length k n                               n is within the bound of the code k
+--   folded x                                       the upper 16 bits of x xor its lower 16 bits
+--   check_of c o n                                 the check value of a page of length n at offset o of chunk c
 use Rattle.std.specs.Prelude.{ℕ, ◌+◌, ◌*◌, ◌/◌, ◌%◌, ◌^◌, Bool, true, cond, ◌&&◌, eqb, ltb, leb}
 use Rattle.std.specs.Int.Bits.{bit_xor}
 use Rattle.position.specs.declared.Position.{Position}

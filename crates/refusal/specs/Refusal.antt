@@ -1,8 +1,8 @@
 -- Refusals, after document 01, "Numbers given back": its table, a name for each line.
 --
---   refusal n     the refusal with number n
---   Outcome A     an answer of A or a refusal: "every call ends with an answer or with one refusal"
---   bind o f      what f makes of o's answer; o's refusal is handed up unchanged
+--   refusal n  the refusal with number n
+--   Outcome A  an answer of A or a refusal: "every call ends with an answer or with one refusal"
+--   bind o f   what f makes of o's answer; o's refusal is handed up unchanged
 use Rattle.std.specs.Prelude.{ℕ}
 use Rattle.refusal.specs.declared.Refusal.{Refusal}
 

@@ -1,10 +1,10 @@
 -- The order of a page's keys against the nearest separators above: the words of this crate's contracts. What the tests of keys and
 -- separators are is in the tree's `Rising`.
 --
---   bound_key image kind b    the nearest separator above on a side, if there is one
---   risen_below b ks          the keys rise strictly and the last of them is below the bound b
---   rise_of image kind b ps   how far the keys at the spots ps rise strictly, the first above b
---   first_of ps               the first of them as a bound
+--   bound_key image kind b   the nearest separator above on a side, if there is one
+--   risen_below b ks         the keys rise strictly and the last of them is below the bound b
+--   rise_of image kind b ps  how far the keys at the spots ps rise strictly, the first above b
+--   first_of ps              the first of them as a bound
 use Rattle.std.specs.Prelude.{ℕ, Bool, cond, ◌&&◌, List, [], ◌∷◌}
 use Rattle.std.proofs.Math.Option.{Option, none, some}
 use Rattle.key.specs.declared.Kind.{Kind}

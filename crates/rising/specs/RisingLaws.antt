@@ -1,7 +1,7 @@
 -- The order of a page's keys: one law for each way that the code takes.
 --
---   Climbing image kind s f b left i answer    the answer of a loop that has `left` keys from place i on, the last before them b
---   end_below hi r    the last of keys that rise is below the bound; not so of keys that don't rise
+--   Climbing image kind s f b left i answer  the answer of a loop that has `left` keys from place i on, the last before them b
+--   end_below hi r                           the last of keys that rise is below the bound; not so of keys that don't rise
 use Rattle.std.specs.Prelude.{ℕ, ◌-◌, ◌≤◌, ◌<◌, ◌≡◌, Bool, cond, ◌&&◌, take}
 use Rattle.std.proofs.Math.Path.{refl}
 use Rattle.std.proofs.Common.{sym, ◌∙◌, ap, true≢false}

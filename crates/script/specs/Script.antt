@@ -1,18 +1,18 @@
 -- A script: what the programs read. It is lines of words; a newline (10) ends a line, a space (32) a word.
 --
---   up_to b s              the bytes of s before the first b
---   line_at input at       the line that begins at a place; past the end, no bytes
---   next_line input at     where the line after it begins; where there is none, the end
---   word_of line k         word number k, the first being 0; where there are fewer, no bytes
---   named line name       whether the first word is a name
---   digit_of b             the value of the digit b, 0-9 (48 to 57) or a-f (97 to 102); below 16 for any other byte too
---   with_digit base n b    the number n with the digit b behind it, modulo 2^64: what does not fit is lost
---   number_in base s       the number that the digits s are in a base, 10 or 16: 0 with each digit behind it in turn
---   byte_of high low       the byte of two hex digits
---   bytes_of s             the bytes that hex digits are, two to a byte; a digit without its second is none, so that `-` is no bytes
---   fitting s area        how many of the bytes of s an area has room for
---   area_after s area      the area with so many of them at its start
---   Holds area n          an area has n bytes at its start: what `&area[..n]` asks for
+--   up_to b s            the bytes of s before the first b
+--   line_at input at     the line that begins at a place; past the end, no bytes
+--   next_line input at   where the line after it begins; where there is none, the end
+--   word_of line k       word number k, the first being 0; where there are fewer, no bytes
+--   named line name      whether the first word is a name
+--   digit_of b           the value of the digit b, 0-9 (48 to 57) or a-f (97 to 102); below 16 for any other byte too
+--   with_digit base n b  the number n with the digit b behind it, modulo 2^64: what does not fit is lost
+--   number_in base s     the number that the digits s are in a base, 10 or 16: 0 with each digit behind it in turn
+--   byte_of high low     the byte of two hex digits
+--   bytes_of s           the bytes that hex digits are, two to a byte; a digit without its second is none, so that `-` is no bytes
+--   fitting s area       how many of the bytes of s an area has room for
+--   area_after s area    the area with so many of them at its start
+--   Holds area n         an area has n bytes at its start: what `&area[..n]` asks for
 use Rattle.std.specs.Prelude.{ℕ, ◌+◌, ◌*◌, ◌-◌, ◌%◌, ◌^◌, ◌≤◌, min, ◌≡◌, Bool, cond, List, [], ◌∷◌, ◌++◌, ltb, length, get_or, take, drop}
 use Rattle.text.specs.Text.{span, is_not, same, split}
 

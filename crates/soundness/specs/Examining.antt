@@ -1,8 +1,8 @@
 -- What one page adds to an examination, after document 01: the words of the contracts.
 --
---   examined_of          what the code hands back
---   leaf_of, child_of     a leaf; the child that the cursors stand at
---   part_of .. j         what a page that is judged says by itself: all, or that its children are to be examined
+--   examined_of        what the code hands back
+--   leaf_of, child_of  a leaf; the child that the cursors stand at
+--   part_of .. j       what a page that is judged says by itself: all, or that its children are to be examined
 use Rattle.std.specs.Prelude.{ℕ, zero, suc, ◌+◌, Bool, true, cond, ◌&&◌, List, ltb, get_or, take}
 use Rattle.refusal.specs.Refusal.{Outcome, ok, refuse, unsound}
 use Rattle.key.specs.declared.Kind.{Kind}

@@ -1,6 +1,6 @@
 -- Laws of the items at the cursors: a recorded count and those after it, a separator and those after it.
 --
---   NextKey          the separator at a cursor, as a bound
+--   NextKey  the separator at a cursor, as a bound
 use Rattle.std.specs.Prelude.{ℕ, suc, ◌+◌, ◌<◌, ◌≡◌, Bool, cond, ltb, length}
 use Rattle.std.proofs.Math.Path.{refl}
 use Rattle.std.proofs.Common.{◌∙◌, ap}

@@ -1,6 +1,6 @@
 -- Laws of the examination of a leaf, one for each way that the code takes.
 --
---   one_page n            the report of a leaf with n entries
+--   one_page n  the report of a leaf with n entries
 use Rattle.std.specs.Prelude.{ℕ, zero, suc, ◌≡◌, Bool, ◌&&◌, List, [], ◌∷◌, length, take}
 use Rattle.std.proofs.Math.Path.{refl}
 use Rattle.std.proofs.Common.{sym}

@@ -1,9 +1,9 @@
 -- Laws of lookup, index and count of a map in a store that is open: one for each way that the code takes; and where what they
 -- give lies.
 --
---   nth_turn e, picked_turn ps c    the turn by the entry that a leaf gave, by the child that an inner page's counts gave
---   went_on child t     a fetch by index after one page: the answer, or what the child answers
---   counted_by j        how many entries a page that is judged has or records
+--   nth_turn e, picked_turn ps c  the turn by the entry that a leaf gave, by the child that an inner page's counts gave
+--   went_on child t               a fetch by index after one page: the answer, or what the child answers
+--   counted_by j                  how many entries a page that is judged has or records
 use Prim.Native.Nat.{ℕ, zero, suc, ◌+◌, ◌-◌, ◌≤◌, ◌<◌}
 use Rattle.std.specs.Prelude.{◌≡◌, length, get_or}
 use Rattle.std.proofs.Math.Path.{refl, ap}

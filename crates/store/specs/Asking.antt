@@ -1,10 +1,10 @@
 -- What is asked of a map in a store that is open, after document 01, "Asking": the map's root is found first.
 --
---   judged_by image store map kind p    the page at p as it is judged: `reader` is this page as data
---   in_map image store map ask          what `ask` says of the map's root
---   lookup_in, index_in, count_in          lookup, index and count of a map by its id and kind
---   value_of, fetched_of, counted_of       what the code hands back
---   turn_of image kind i j               one page of a fetch by index: the child to go on at, or the answer
+--   judged_by image store map kind p  the page at p as it is judged: `reader` is this page as data
+--   in_map image store map ask        what `ask` says of the map's root
+--   lookup_in, index_in, count_in     lookup, index and count of a map by its id and kind
+--   value_of, fetched_of, counted_of  what the code hands back
+--   turn_of image kind i j            one page of a fetch by index: the child to go on at, or the answer
 use Rattle.std.specs.Prelude.{ℕ, ◌+◌, List, get_or, take}
 use Rattle.std.proofs.Math.Option.{Option, none, some}
 use Rattle.std.proofs.Math.ListN.{get_elem?}

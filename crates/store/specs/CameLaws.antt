@@ -1,8 +1,8 @@
 -- Laws of the loop over an inner page's children: where the cursors stand at child number j, what it is, and the figures so far.
 --
---   child_in ..                    the examination of one child
---   children_examined ..           the examination of them all
---   Came .. j counts keys lo r    the loop has come to child number j, with the figures r of those before it
+--   child_in ..                 the examination of one child
+--   children_examined ..        the examination of them all
+--   Came .. j counts keys lo r  the loop has come to child number j, with the figures r of those before it
 use Rattle.std.specs.Prelude.{ℕ, suc, ◌+◌, ◌-◌, ◌^◌, ◌≤◌, ◌<◌, max, ◌≡◌, refl, Bool, true, false, List, [], map, ltb, length, get_or, take, drop}
 use Rattle.std.proofs.Common.{sym, ◌∙◌, add-one, drop-cons}
 use Rattle.std.proofs.Math.Path.{ap}

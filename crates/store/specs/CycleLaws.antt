@@ -1,7 +1,7 @@
 -- Laws of locating and of a descent with a memory, one for each way that the code takes.
 --
---   tells-X                 what locating a chunk tells
---   sought-X, came-X        what a descent answers; where it has come to
+--   tells-X           what locating a chunk tells
+--   sought-X, came-X  what a descent answers; where it has come to
 use Prim.Native.Nat.{ℕ, zero, suc, ◌-◌, ◌≤◌, ◌<◌, max}
 use Rattle.std.specs.Prelude.{◌≡◌, List}
 use Rattle.std.proofs.Math.Path.{refl}

@@ -1,9 +1,9 @@
 -- Laws of the examination of a page and a map, one for each way that the code takes. Those of the loop over a page's children are
 -- in CameLaws.
 --
---   examined_at ..       what the examination from the page at p down hands back
---   lying, below         of an inner page: the test of its separators, and the examination of its children
---   Under b              of an inner page whose children are to be examined: nothing of it is missing, and they say what it is
+--   examined_at ..  what the examination from the page at p down hands back
+--   lying, below    of an inner page: the test of its separators, and the examination of its children
+--   Under b         of an inner page whose children are to be examined: nothing of it is missing, and they say what it is
 use Prim.Native.Nat.{ℕ, zero, suc, ◌+◌, ◌-◌}
 use Rattle.std.specs.Prelude.{◌≡◌, Bool, cond, ◌&&◌, List, length}
 use Rattle.std.proofs.Math.Path.{refl, ap}

@@ -1,7 +1,7 @@
 -- The examination of a map in a store that is open, after document 01; and the words of its private contracts.
 --
 --   examine_in image store map kind    the examination of a map by its id and kind
---   examined_under, examined_children    what the examination of a page, of an inner page's children gives back
+--   examined_under, examined_children  what the examination of a page, of an inner page's children gives back
 --   WholePage                          nothing is missing of an inner page that was judged
 --   tallied                            the children so far and one more
 use Rattle.std.specs.Prelude.{ℕ, ◌+◌, ◌^◌, ◌<◌, max, Bool, false, cond, List, eqb, take}

@@ -1,8 +1,8 @@
 -- What is right of the memory of a call, and what the code's answers say of locating.
 --
---   RightWords image store ws    each chunk that the words hold is known: it stands there, and takes as many questions
---   IsLocation, IsAnswer               what an answer of `locate`, of `descend` says
---   IsAnswerIn image m root key q   the same of a map that is asked, by a key's bytes
+--   RightWords image store ws      each chunk that the words hold is known: it stands there, and takes as many questions
+--   IsLocation, IsAnswer           what an answer of `locate`, of `descend` says
+--   IsAnswerIn image m root key q  the same of a map that is asked, by a key's bytes
 use Rattle.std.specs.Prelude.{ℕ, ◌≤◌, ◌≡◌, List}
 use Rattle.std.proofs.Math.Option.{none, some}
 use Rattle.refusal.specs.Refusal.{ok, refuse}

@@ -1,7 +1,7 @@
 -- Locating a chunk by the metadata's answer, as the code does: the words of its private contracts.
 --
---   one_more l              a location that takes one question more: that which asked for it
---   settled_location, settled_words    locating by the metadata's answer, and the memory after it
+--   one_more l                       a location that takes one question more: that which asked for it
+--   settled_location, settled_words  locating by the metadata's answer, and the memory after it
 use Rattle.std.specs.Prelude.{ℕ, ◌+◌, List}
 use Rattle.fletcher.specs.declared.Edition.{Edition}
 use Rattle.memory.specs.Words.{remembered_in}

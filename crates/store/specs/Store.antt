@@ -1,15 +1,15 @@
 -- A store that is open, after document 01, "Where a chunk is" and "Asking".
 --
---   metadata_map store           the metadata as a map that is asked
---   metadata image store        what locating takes, for this image
---   chunk_at image store q n     where chunk n is, with q questions that may still be opened
---   reader image store map kind p    the page at p, due for a map of a kind: 8 questions may be opened
---   pages_of image m p           the same for a map that is asked
---   asked_root store             the root from which maps are asked
---   meta_value image store key   the spot of the metadata's value for a key, or none
---   map_id image store name      "`name.X` gives map X's id in hex"
---   named_map image store name   the same, a name of more than 1,000 bytes refused with 1
---   map_root image store map     "`root.` with the id gives its root, absent meaning 0"
+--   metadata_map store             the metadata as a map that is asked
+--   metadata image store           what locating takes, for this image
+--   chunk_at image store q n       where chunk n is, with q questions that may still be opened
+--   reader image store map kind p  the page at p, due for a map of a kind: 8 questions may be opened
+--   pages_of image m p             the same for a map that is asked
+--   asked_root store               the root from which maps are asked
+--   meta_value image store key     the spot of the metadata's value for a key, or none
+--   map_id image store name        "`name.X` gives map X's id in hex"
+--   named_map image store name     the same, a name of more than 1,000 bytes refused with 1
+--   map_root image store map       "`root.` with the id gives its root, absent meaning 0"
 use Rattle.std.specs.Prelude.{ℕ, List, eqb, ltb, length}
 use Rattle.std.proofs.Math.Option.{Option}
 use Rattle.refusal.specs.Refusal.{Outcome, ok, refuse, bind, bad_argument}

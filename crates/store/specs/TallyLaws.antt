@@ -1,8 +1,8 @@
 -- Laws of one more child of an inner page: the figures so far with its own, in the code's terms and of outcomes; and figures that can
 -- be added.
 --
---   reported r       the figures as a report
---   PassedChild      a child that passed, and the figures with its own
+--   reported r   the figures as a report
+--   PassedChild  a child that passed, and the figures with its own
 use Prim.Native.Nat.{ℕ, ◌+◌, ◌*◌, ◌^◌, ◌≤◌, ◌<◌, max}
 use Rattle.std.specs.Prelude.{◌≡◌, Bool}
 use Rattle.std.proofs.Math.Path.{refl, sym}

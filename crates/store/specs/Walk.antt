@@ -1,7 +1,7 @@
 -- One step of the walk in a store that is open, after document 01: "The walk yields entries left to right from a state of 16 places."
 --
---   step_in .. w         one step, from a state that is going on
---   Walks .. w es       steps from w yield the entries es, one a step, and then Done
+--   step_in .. w   one step, from a state that is going on
+--   Walks .. w es  steps from w yield the entries es, one a step, and then Done
 use Rattle.std.specs.Prelude.{ℕ, ◌≡◌, List, [], ◌∷◌}
 use Rattle.key.specs.declared.Kind.{Kind}
 use Rattle.key.specs.Key.{Key}

@@ -1,7 +1,7 @@
 -- Laws of one page on the walk's two ways down, one for each way that the code takes.
 --
---   FirstBy p a           what the first child or entry a of the page at p says of the leftmost way
---   NextBy .. l p a       what a, which follows number l at the page at p, says of the way by the numbers
+--   FirstBy p a      what the first child or entry a of the page at p says of the leftmost way
+--   NextBy .. l p a  what a, which follows number l at the page at p, says of the way by the numbers
 use Rattle.std.specs.Prelude.{ℕ, zero, suc, ◌+◌, ◌≤◌, ◌<◌, ◌≡◌, Bool, cond, ◌⊎◌, List, [], ◌∷◌, ◌++◌, eqb, ltb, leb, get_or, replicate}
 use Rattle.std.proofs.Math.Path.{refl, ap}
 use Rattle.std.proofs.Common.{◌∙◌, inl, inr, ⊎_elim, add-one, arith}

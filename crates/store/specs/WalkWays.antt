@@ -1,7 +1,7 @@
 -- Where the walk's two ways down end, and what that says of the walk: the private contracts of `down_by` and `leftmost_from`.
 --
---   EndsLeft .. level p m     m is the leftmost entry under the page at p, which `level` numbers lead to
---   EndsDown .. nums root d   d is where the way down from the root by the numbers nums ends
+--   EndsLeft .. level p m    m is the leftmost entry under the page at p, which `level` numbers lead to
+--   EndsDown .. nums root d  d is where the way down from the root by the numbers nums ends
 use Rattle.std.specs.Prelude.{ℕ, suc, ◌-◌, ◌≤◌, ◌<◌, ◌≡◌, List, [], ◌++◌, length, get_or, take, replicate}
 use Rattle.key.specs.declared.Kind.{Kind}
 use Rattle.key.specs.Key.{Key}

@@ -1,6 +1,6 @@
 -- Laws of the walk's two ways down, page after page.
 --
---   past_of nums found x   the answer where no entry is left below: the child at x after the one used at level `found`, counted from 1
+--   past_of nums found x  the answer where no entry is left below: the child at x after the one used at level `found`, counted from 1
 --   Going .. l p ..       how far the way by the numbers has come: number l is used at the page at p
 --   Lefting .. depth q    how far the leftmost way has come: `depth` numbers lead to the page at q
 use Prim.Native.Nat.{ℕ, suc, ◌+◌, ◌-◌, ◌≤◌, ◌<◌}

@@ -1,13 +1,13 @@
 -- Runs of bytes in a text: the words in which lines, digits and keys are defined.
 --
---   bytes_at s i n    the n bytes of s from place i on, or as many of them as there are
---   span P s         how many leading bytes of s have the property P
---   every P s        whether all bytes of s have it
---   is_not b x        x is another byte than b
---   is_printable x    x is 32 to 126: 01, "bytes 32 to 126"
---   is_letter x       x is an ASCII letter
---   same s t         whether s and t are the same bytes
---   split b s        the parts of s between the bytes b; without one, s is its only part
+--   bytes_at s i n  the n bytes of s from place i on, or as many of them as there are
+--   span P s        how many leading bytes of s have the property P
+--   every P s       whether all bytes of s have it
+--   is_not b x      x is another byte than b
+--   is_printable x  x is 32 to 126: 01, "bytes 32 to 126"
+--   is_letter x     x is an ASCII letter
+--   same s t        whether s and t are the same bytes
+--   split b s       the parts of s between the bytes b; without one, s is its only part
 use Rattle.std.specs.Prelude.{ℕ, suc, Bool, true, false, cond, not, ◌&&◌, ◌||◌, List, [], ◌∷◌, eqb, leb, take, drop}
 
 abbrev pub bytes_at : List ℕ → ℕ → ℕ → List ℕ

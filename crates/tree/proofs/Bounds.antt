@@ -1,9 +1,9 @@
 -- How large the figures of a report are: what sums in code need.
 --
---   Few levels r            at most `levels` pages for each entry, no page deeper than `levels`: of any of a page's children together
---   Small levels r          the same, and an entry: of a page below the root
---   Bounded root levels r   the same of any page; the root may be an empty leaf, one page more
---   ReadsBelow bound read   leaves have, and inner pages record, fewer than `bound` entries
+--   Few levels r           at most `levels` pages for each entry, no page deeper than `levels`: of any of a page's children together
+--   Small levels r         the same, and an entry: of a page below the root
+--   Bounded root levels r  the same of any page; the root may be an empty leaf, one page more
+--   ReadsBelow bound read  leaves have, and inner pages record, fewer than `bound` entries
 use Prim.Native.Nat.{ℕ, zero, suc, ◌+◌, ◌*◌, ◌<◌, ◌≤◌}
 use Rattle.std.specs.Prelude.{◌≡◌, Bool, true, List, [], ◌∷◌, length}
 use Rattle.std.proofs.Math.Path.{refl}

@@ -1,6 +1,6 @@
 -- What holds of each entry of each leaf that is read holds of what lookup, index and the entry list give.
 --
---   InLeaf P o     P of each entry of the page, where it is a leaf
+--   InLeaf P o  P of each entry of the page, where it is a leaf
 use Prim.Native.Nat.{ℕ, zero, suc, ◌-◌}
 use Rattle.std.specs.Prelude.{◌≡◌, Bool, true, false, List, [], ◌∷◌, ltb}
 use Rattle.std.proofs.Common.{subst, true≢false}

@@ -1,7 +1,7 @@
 -- Laws of lists and of children, by their elements: All, AllChildren, IsChild, nth, joined.
 --
---   all-X, children-X      All of a list, AllChildren of children
---   nth-X                  entry number i
+--   all-X, children-X  All of a list, AllChildren of children
+--   nth-X              entry number i
 use Rattle.std.specs.Prelude.{ℕ, zero, suc, ◌-◌, ◌<◌, ◌≤◌, ◌≡◌, refl, length}
 use Rattle.std.proofs.Common.{sym, subst, inl, inr, arith, length-append}
 use Rattle.std.proofs.Math.Option.{some}

@@ -1,6 +1,6 @@
 -- Lookup in a sound map finds the entry of the list that has the key.
 --
---   assoc cmp k es    the value of the first entry in es that has the key k, whatever the order of es
+--   assoc cmp k es  the value of the first entry in es that has the key k, whatever the order of es
 use Prim.Native.Nat.{ℕ, zero, suc}
 use Rattle.std.specs.Prelude.{◌≡◌, refl, Bool, true}
 use Rattle.std.proofs.Common.{sym, ap, subst}

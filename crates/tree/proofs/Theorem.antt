@@ -1,9 +1,9 @@
 -- Demand 3, over any reading of pages and any strict total order of keys:
 --
---   examined          the examination passes exactly the sound maps
---   sound_answers     a sound map's answers agree with its entry list
---   passed_answers    so do those of a map that the examination passes
---   passed_entries    its report counts the entry list
+--   examined        the examination passes exactly the sound maps
+--   sound_answers   a sound map's answers agree with its entry list
+--   passed_answers  so do those of a map that the examination passes
+--   passed_entries  its report counts the entry list
 use Prim.Native.Nat.{ℕ, zero, suc}
 use Rattle.std.specs.Prelude.{◌≡◌, ◌↔◌, length}
 use Rattle.std.proofs.Math.Path.{refl, sym}

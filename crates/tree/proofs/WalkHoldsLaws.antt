@@ -1,6 +1,6 @@
 -- What holds of each entry of each leaf that is read holds of the entries that the walk yields.
 --
---   Holds P m     P of the entry that m yields, if it yields one
+--   Holds P m  P of the entry that m yields, if it yields one
 use Prim.Native.Nat.{ℕ, zero, suc}
 use Rattle.std.proofs.Math.Option.{Option, none, some}
 use mathlib.Core.List.{List, [], ◌∷◌}

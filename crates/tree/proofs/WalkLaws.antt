@@ -3,17 +3,17 @@
 -- A loop is at the page at p, which the numbers used so far lead to. What it still has to answer is stated as the whole step's
 -- answer, with all the numbers from the root on. `past` is the answer where no entry is left from the page at p down.
 --
---   prefixed pre e j is          the entry e with the numbers pre, then j, then is
---   through pre past m           the whole step's answer where m is next from the page down that the numbers pre lead to
---   raised nums l                the numbers before number l, then one more than number l: they lead to the child after
---   empty_leaf n                  the answer at an empty leaf that n numbers lead to
---   leftmost_at read pre k p      the loop to the leftmost entry: k levels below the page that the numbers pre lead to
---   next_at read nums past l p    the loop that follows the numbers nums: number l is used at the page at p
+--   prefixed pre e j is         the entry e with the numbers pre, then j, then is
+--   through pre past m          the whole step's answer where m is next from the page down that the numbers pre lead to
+--   raised nums l               the numbers before number l, then one more than number l: they lead to the child after
+--   empty_leaf n                the answer at an empty leaf that n numbers lead to
+--   leftmost_at read pre k p    the loop to the leftmost entry: k levels below the page that the numbers pre lead to
+--   next_at read nums past l p  the loop that follows the numbers nums: number l is used at the page at p
 --
---   child-X, element-X           child number i of an inner page as three lists; element number i of a list
---   leftmost-X                   the loop to the leftmost entry; leftmost_top where it starts at the root
---   at-X                         the loop that follows the numbers; next_top where it starts
---   map-X                        a step of a map, by its root and whether the state is fresh: which loop it starts
+--   child-X, element-X  child number i of an inner page as three lists; element number i of a list
+--   leftmost-X          the loop to the leftmost entry; leftmost_top where it starts at the root
+--   at-X                the loop that follows the numbers; next_top where it starts
+--   map-X               a step of a map, by its root and whether the state is fresh: which loop it starts
 use Prim.Native.Nat.{ℕ, zero, suc, ◌+◌, ◌-◌, ◌<◌, ◌≤◌}
 use Rattle.std.specs.Prelude.{◌≡◌, take, drop}
 use Rattle.std.proofs.Math.Path.{refl, sym}

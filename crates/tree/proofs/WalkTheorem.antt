@@ -1,14 +1,14 @@
 -- The walk over a map, over any reading of pages:
 --
---   sound_yields      over a sound map, steps from the fresh state yield the entry list in order, one entry a step, and then no more
---   next_fits         the numbers of an entry fit the 16 places of the state, whatever the map
+--   sound_yields  over a sound map, steps from the fresh state yield the entry list in order, one entry a step, and then no more
+--   next_fits     the numbers of an entry fit the 16 places of the state, whatever the map
 --
---   FitsIn n m        if m yields an entry, at most n numbers lead to it; Fits m for the 16 of the state
+--   FitsIn n m  if m yields an entry, at most n numbers lead to it; Fits m for the 16 of the state
 --
 -- In the proofs, what steps yield is said of any page, with the numbers that lead from that page:
 --
---   Runs follow m es             m, and then each time what `follow` says of the last entry's numbers, are the entries es, then no more
---   Walked first next list q     so it is of the page at q and its entry list, which is not empty
+--   Runs follow m es          m, and then each time what `follow` says of the last entry's numbers, are the entries es, then no more
+--   Walked first next list q  so it is of the page at q and its entry list, which is not empty
 use Prim.Native.Nat.{ℕ, zero, suc, ◌+◌, ◌≤◌}
 use Rattle.std.specs.Prelude.{◌≡◌, Bool, length}
 use Rattle.std.proofs.Math.Path.{refl, ap}

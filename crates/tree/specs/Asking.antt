@@ -2,12 +2,12 @@
 -- answer for the children, and two lines of recursion. `levels` is how many levels of pages there may still be, the page's
 -- own counted: the root's is 16, and a page with none left is at depth 17.
 --
---   child_for cmp k cs        the child that a lookup of k takes
---   find_in cmp k es          the value that a leaf answers for k
---   lookup .. levels k p     lookup of k from the page at p down: the value, or none for Absent
---   index .. levels i p      the entry numbered i from the page at p down
---   entries .. levels p      the entry list of the page at p
---   map_lookup, map_index, map_count, map_entries    the same of a map, by its root
+--   child_for cmp k cs                             the child that a lookup of k takes
+--   find_in cmp k es                               the value that a leaf answers for k
+--   lookup .. levels k p                           lookup of k from the page at p down: the value, or none for Absent
+--   index .. levels i p                            the entry numbered i from the page at p down
+--   entries .. levels p                            the entry list of the page at p
+--   map_lookup, map_index, map_count, map_entries  the same of a map, by its root
 use Rattle.std.specs.Prelude.{ℕ, zero, suc, ◌-◌, List, [], ◌∷◌, ltb, length}
 use Rattle.std.proofs.Math.Option.{Option, none, some}
 use Rattle.refusal.specs.Refusal.{Outcome, ok, refuse, too_deep, bad_index}

@@ -1,7 +1,7 @@
 -- Demand 3, over any reading of pages and any strict total order of keys: what it says.
 --
---   Passes cmp read root    "The examination passes a map if it doesn't refuse."
---   Answers cmp read root   lookup of any key, every index and the count agree with the entry list
+--   Passes cmp read root   "The examination passes a map if it doesn't refuse."
+--   Answers cmp read root  lookup of any key, every index and the count agree with the entry list
 use Rattle.std.specs.Prelude.{ℕ, ◌<◌, ◌≤◌, ◌≡◌, length}
 use Rattle.std.proofs.Math.Option.{Option, none, some}
 use mathlib.Core.List.{Memᴰ}

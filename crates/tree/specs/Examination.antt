@@ -1,12 +1,12 @@
 -- The examination, after document 01: "The examination goes depth first, a page's own rules before its keys, its separators
 -- before its children, a child before its recorded count; it refuses at the first fault."
 --
---   Report                       what it reports: entries, pages, and the deepest page's depth
---   above_bound, from_bound, below_bound     a key against the nearest separator above on a side, if there is one
---   separators_lie lo hi ks       the test of an inner page's separators
---   keys_lie lo hi previous es    the test of a leaf's keys
+--   Report                                what it reports: entries, pages, and the deepest page's depth
+--   above_bound, from_bound, below_bound  a key against the nearest separator above on a side, if there is one
+--   separators_lie lo hi ks               the test of an inner page's separators
+--   keys_lie lo hi previous es            the test of a leaf's keys
 --   examine .. levels root lo hi p        the examination from the page at p down; `root` says whether it is the root
---   map_examine                   of a map, by its root
+--   map_examine                           of a map, by its root
 use Rattle.std.specs.Prelude.{ℕ, zero, suc, ◌+◌, max, Bool, true, false, ◌&&◌, not, List, [], ◌∷◌, eqb, length}
 use Rattle.std.proofs.Math.Option.{Option, none, some}
 use Rattle.refusal.specs.Refusal.{Outcome, ok, refuse, bind, too_deep, unsound}

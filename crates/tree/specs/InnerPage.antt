@@ -1,11 +1,11 @@
 -- An inner page as it is read: n + 1 positions, n + 1 counts, n keys. What the definitions over children are there, as loops over
 -- a child's number come to them. Their laws are in ChildrenLaws.
 --
---   children_of ps ns ks        the children with the positions ps, the recorded counts ns and the keys ks between them
---   children_from ps ns ks j    those from number j on
---   lead cmp k ks              how many leading keys, up to the first greater one, are not greater than k
---   sum ns                     of all counts
---   examine_from .. r cs        the examination of the children cs, with the report r of those before
+--   children_of ps ns ks      the children with the positions ps, the recorded counts ns and the keys ks between them
+--   children_from ps ns ks j  those from number j on
+--   lead cmp k ks             how many leading keys, up to the first greater one, are not greater than k
+--   sum ns                    of all counts
+--   examine_from .. r cs      the examination of the children cs, with the report r of those before
 use Rattle.std.specs.Prelude.{ℕ, suc, ◌+◌, List, [], ◌∷◌, get_or, drop}
 use Rattle.std.proofs.Math.Option.{Option, some}
 use Rattle.refusal.specs.Refusal.{Outcome, ok, bind}

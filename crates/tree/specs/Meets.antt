@@ -1,11 +1,11 @@
 -- Soundness by recursion from a page down, as the proofs go. That it is document 01's soundness is in ReachedLaws.
 --
---   Filled root es        only the root may be an empty leaf
---   AboveBound, FromBound, BelowBound     what the tests of those names tell
---   LeftOfBound           below the bound, which is there
---   Within cmp lo hi es   keys rise strictly, not below `lo`, below `hi`
---   MeetsChildren, MeetsPage, Meets       the page at p, and each page under it, meets the rules, its separators and counts are right
---   MeetsMap              the same of a map, by its root, and leaf keys rise strictly
+--   Filled root es                     only the root may be an empty leaf
+--   AboveBound, FromBound, BelowBound  what the tests of those names tell
+--   LeftOfBound                        below the bound, which is there
+--   Within cmp lo hi es                keys rise strictly, not below `lo`, below `hi`
+--   MeetsChildren, MeetsPage, Meets    the page at p, and each page under it, meets the rules, its separators and counts are right
+--   MeetsMap                           the same of a map, by its root, and leaf keys rise strictly
 use Rattle.std.specs.Prelude.{ℕ, zero, suc, ◌≡◌, Bool, true, false, List, [], ◌∷◌, length}
 use Rattle.std.proofs.Math.Option.{Option, none, some}
 use Rattle.refusal.specs.Refusal.{Outcome, ok, refuse}

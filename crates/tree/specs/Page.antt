@@ -1,12 +1,12 @@
 -- Pages as data, and what stands in them by number. A position is a number; what it is read as is a parameter everywhere:
 -- `read : ℕ → Outcome (Page K W)`, for keys of a type K and places of values of a type W.
 --
---   Children K        the children of an inner page: each a position with its recorded count, a separator between each two
---   Page K W          a leaf with its entries in page order, or an inner page with its children
---   separators cs     the keys of an inner page
---   total cs          the sum of the recorded counts
---   joined list cs    the children's lists joined, child 0 first
---   nth i es          entry number i, refused with 15 where there is none
+--   Children K      the children of an inner page: each a position with its recorded count, a separator between each two
+--   Page K W        a leaf with its entries in page order, or an inner page with its children
+--   separators cs   the keys of an inner page
+--   total cs        the sum of the recorded counts
+--   joined list cs  the children's lists joined, child 0 first
+--   nth i es        entry number i, refused with 15 where there is none
 use Rattle.std.specs.Prelude.{ℕ, zero, suc, ◌+◌, Bool, true, false, List, [], ◌∷◌, ◌++◌}
 use Rattle.refusal.specs.Refusal.{Outcome, ok, refuse, bad_index}
 

@@ -1,11 +1,11 @@
 -- The examination's tests of keys and separators as one pass takes them: each key is held against the one before it, and only the
 -- first and the last against the bounds. That this is `keys_lie` and `separators_lie`, over a strict total order, is in RisingLaws.
 --
---   keys_of es            the keys of entries
---   rises b ks           the keys rise strictly, the first above b, if there is one
---   first_above lo ks     the first key, if there is one, is above lo
---   first_from lo ks      the first key, if there is one, is not below lo
---   last_below hi ks      the last key, if there is one, is below hi
+--   keys_of es         the keys of entries
+--   rises b ks         the keys rise strictly, the first above b, if there is one
+--   first_above lo ks  the first key, if there is one, is above lo
+--   first_from lo ks   the first key, if there is one, is not below lo
+--   last_below hi ks   the last key, if there is one, is below hi
 use Rattle.std.specs.Prelude.{Bool, true, ◌&&◌, List, [], ◌∷◌}
 use Rattle.std.proofs.Math.Option.{Option, none, some}
 use Rattle.order.specs.declared.Order.{Order}

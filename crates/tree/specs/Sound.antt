@@ -1,12 +1,12 @@
 -- Soundness, after document 01, "A map, in an image that opens" and "Sound": what holds of the reached pages, sentence by
 -- sentence, with no word of how it is examined.
 --
---   IsChild q cs                 q is the position of one of the children
---   page_at read levels p         the page at p by the page rules, the depth first
---   Reached read root levels p   the page at p is reached from the root, with so many levels left
---   Rising cmp es                keys rise strictly from left to right
---   Separated cmp list left cs   the separators of one page against the keys on either side
---   Sound cmp read root          01's "sound"
+--   IsChild q cs                q is the position of one of the children
+--   page_at read levels p       the page at p by the page rules, the depth first
+--   Reached read root levels p  the page at p is reached from the root, with so many levels left
+--   Rising cmp es               keys rise strictly from left to right
+--   Separated cmp list left cs  the separators of one page against the keys on either side
+--   Sound cmp read root         01's "sound"
 use Rattle.std.specs.Prelude.{ℕ, zero, suc, ◌≡◌, ◌⊎◌, List, [], ◌∷◌, ◌++◌, length}
 use Rattle.refusal.specs.Refusal.{Outcome, ok, refuse, too_deep}
 use Rattle.order.specs.declared.Order.{Order}

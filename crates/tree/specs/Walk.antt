@@ -2,12 +2,12 @@
 -- what is next in the children, and by recursion. Numbers lead from the root to an entry: a child's number at each inner page,
 -- the entry's number at the leaf. The state that holds them is the store's.
 --
---   Moved E                  what is next: an entry with the numbers that lead to it from the page, no entry left, or a refusal
---   child_at i cs             the position of child number i, if there is one
---   first .. levels p        the leftmost entry from the page at p down
---   next .. levels i is p    the entry after the one that the numbers i, is lead to from the page at p
---   map_next .. is root       of a map; no numbers are those of the fresh state
---   Yields .. es             stepping on by the numbers yields the entries es, one a step, and then no more
+--   Moved E                what is next: an entry with the numbers that lead to it from the page, no entry left, or a refusal
+--   child_at i cs          the position of child number i, if there is one
+--   first .. levels p      the leftmost entry from the page at p down
+--   next .. levels i is p  the entry after the one that the numbers i, is lead to from the page at p
+--   map_next .. is root    of a map; no numbers are those of the fresh state
+--   Yields .. es           stepping on by the numbers yields the entries es, one a step, and then no more
 use Rattle.std.specs.Prelude.{ℕ, zero, suc, ◌≡◌, List, [], ◌∷◌}
 use Rattle.std.proofs.Math.Option.{Option, none, some}
 use Rattle.std.proofs.Math.ListN.{get_elem?}

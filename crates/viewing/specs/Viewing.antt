@@ -1,9 +1,9 @@
 -- The store that every call asks, after document 01, "Opening", and request C-16 of document 02.
 --
---   edition_of n               the edition that a number names
---   opened_in image edition    the store, or why the image does not open
---   opened_store image view    the same by a view, as a caller gives it
---   store_said                 the code's answer as an outcome
+--   edition_of n             the edition that a number names
+--   opened_in image edition  the store, or why the image does not open
+--   opened_store image view  the same by a view, as a caller gives it
+--   store_said               the code's answer as an outcome
 use Rattle.std.specs.Prelude.{ℕ, cond, List, eqb}
 use Rattle.refusal.specs.Refusal.{Outcome, ok, refuse, bind, bad_argument}
 use Rattle.fletcher.specs.declared.Edition.{Edition}

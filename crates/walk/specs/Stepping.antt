@@ -1,10 +1,10 @@
 -- One step of the walk as a public call, after document 01, "Asking".
 --
---   recorded n          the answer that a state with the last answer n gives again, if it records one
---   moved_of .. w        what is next: arguments, then opening, then the map
---   given w m           the step from w when m is next: the state after it, and the answer `next_of m`
---   step_of .. w         the call
---   WalksOf .. w es     steps from w yield the entries es, one a step, and then Done, which is given again
+--   recorded n       the answer that a state with the last answer n gives again, if it records one
+--   moved_of .. w    what is next: arguments, then opening, then the map
+--   given w m        the step from w when m is next: the state after it, and the answer `next_of m`
+--   step_of .. w     the call
+--   WalksOf .. w es  steps from w yield the entries es, one a step, and then Done, which is given again
 use Rattle.std.specs.Prelude.{ℕ, ◌≡◌, List, [], ◌∷◌, eqb}
 use Rattle.std.proofs.Math.Option.{Option, none, some}
 use Rattle.refusal.specs.Refusal.{refusal}
