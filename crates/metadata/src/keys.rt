@@ -6,14 +6,14 @@ ghost use Rattle.numeral.specs.Hex.{hex_text};
 ghost use Rattle.metadata.specs.Keys.{chunk_key, name_key, root_key, number_key, long_key};
 
 // A key with a number: its first `len` bytes.
-#[derive(Drop)]
+#[derive(Clone, Copy)]
 pub struct NumberKey {
     pub bytes: [u8; 22],
     pub len: usize,
 }
 
 // A key with a name: its first `len` bytes.
-#[derive(Drop)]
+#[derive(Clone, Copy)]
 pub struct NameKey {
     pub bytes: [u8; 1005],
     pub len: usize,

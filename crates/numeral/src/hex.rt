@@ -12,7 +12,7 @@ pub enum Number {
 }
 
 // A number's digits: the bytes from `start` on.
-#[derive(Drop)]
+#[derive(Clone, Copy)]
 pub struct Digits {
     pub bytes: [u8; 16],
     pub start: usize,
