@@ -7,18 +7,6 @@ unfolding entries_in
 returns-in_default c =
     rw (paired_nth _ _ _ _ c.args.k, ← c.key_form.ensures, ← c.nth_item-a.ensures, c.in_default.is)
 
-pub returns-in_default-b : goal.returns-in_default-b
-unfolding entries_in
-returns-in_default-b c =
-    rw (
-      paired_nth _ _ _ _ c.args.k,
-      ← c.key_form.ensures,
-      ← c.nth_item-a.ensures,
-      c.in-At.is,
-      ← c.nth_item-b.ensures,
-      c.in_default-b.is,
-    )
-
 pub returns : goal.returns
 unfolding entries_in
 returns c =
@@ -29,4 +17,16 @@ returns c =
       c.in-At.is,
       ← c.nth_item-b.ensures,
       c.in-At-b.is,
+    )
+
+pub returns-in_default-b : goal.returns-in_default-b
+unfolding entries_in
+returns-in_default-b c =
+    rw (
+      paired_nth _ _ _ _ c.args.k,
+      ← c.key_form.ensures,
+      ← c.nth_item-a.ensures,
+      c.in-At.is,
+      ← c.nth_item-b.ensures,
+      c.in_default-b.is,
     )

@@ -18,19 +18,6 @@ pub overflow_sub-footer-2 : goal.overflow_sub-footer-2
 overflow_sub-footer-2 c =
     omega (arith, begins_room _ c.offset-offset.result (sym c.page_begins.ensures ∙ c.if-page_begins.true))
 
-pub returns-else-length_fits : goal.returns-else-length_fits
-unfolding head_at
-returns-else-length_fits c =
-    rw (
-      ← c.offset-offset.ensures,
-      ← c.page_begins.ensures,
-      c.if-page_begins.true,
-      ← c.be32-n.ensures,
-      ← c.code.ensures,
-      ← c.length_fits.ensures,
-      c.if-length_fits.false,
-    ) (ap Refused c.new-else-length_fits.ensures)
-
 pub returns-then-be16-check_value : goal.returns-then-be16-check_value
 unfolding head_at
 returns-then-be16-check_value c =
@@ -66,3 +53,16 @@ returns c =
       ← c.cut.ensures,
       ← c.page_type.ensures,
     ) c.fields.ensures
+
+pub returns-else-length_fits : goal.returns-else-length_fits
+unfolding head_at
+returns-else-length_fits c =
+    rw (
+      ← c.offset-offset.ensures,
+      ← c.page_begins.ensures,
+      c.if-page_begins.true,
+      ← c.be32-n.ensures,
+      ← c.code.ensures,
+      ← c.length_fits.ensures,
+      c.if-length_fits.false,
+    ) (ap Refused c.new-else-length_fits.ensures)

@@ -1,10 +1,6 @@
 use Rattle.page.specs.Judged.{inner_at}
 use Rattle.page.proofs.inner.Goals as goal
 
-pub returns-in_default : goal.returns-in_default
-unfolding inner_at
-returns-in_default c = rw (← c.skip_items-a.ensures, c.in_default.is) c.bad_contents.ensures
-
 pub returns-in_default-b : goal.returns-in_default-b
 unfolding inner_at
 returns-in_default-b c =
@@ -38,3 +34,7 @@ returns c =
       ← c.skip_items-d.ensures,
       c.in-Past-d.is,
     ) c.whole.ensures
+
+pub returns-in_default : goal.returns-in_default
+unfolding inner_at
+returns-in_default c = rw (← c.skip_items-a.ensures, c.in_default.is) c.bad_contents.ensures

@@ -24,6 +24,20 @@ returns-then-line-colon-ne58 c =
     let a = c.args in
     sym (part_other a.line.now a.from _ c.letters_end-colon.ensures c.if-line-colon-ne58.true)
 
+pub returns-else-line-next-ne44 : goal.returns-else-line-next-ne44
+returns-else-line-next-ne44 c =
+    let a = c.args in
+    let letters = c.letters_end-colon.ensures in
+    let read = sym c.hex_at-digits.ensures ∙ c.in-Read.is in
+    sym (part_ends a.line.now a.from _ letters (omega arith) (omega arith) (search rules) _ _ read (λ h. search rules))
+
+pub returns-else-next-line : goal.returns-else-next-line
+returns-else-next-line c =
+    let a = c.args in
+    let letters = c.letters_end-colon.ensures in
+    let read = sym c.hex_at-digits.ensures ∙ c.in-Read.is in
+    sym (part_ends a.line.now a.from _ letters (omega arith) (omega arith) (search rules) _ _ read (λ h. absurd (omega arith)))
+
 pub returns-in_default : goal.returns-in_default
 returns-in_default c =
     let a = c.args in
@@ -38,17 +52,3 @@ returns-then-line-next-ne44 c =
     let read = sym c.hex_at-digits.ensures ∙ c.in-Read.is in
     let more = c.if-next-line.true in
     sym (part_followed a.line.now a.from _ letters (omega arith) (omega arith) (search rules) _ _ read more c.if-line-next-ne44.true)
-
-pub returns-else-line-next-ne44 : goal.returns-else-line-next-ne44
-returns-else-line-next-ne44 c =
-    let a = c.args in
-    let letters = c.letters_end-colon.ensures in
-    let read = sym c.hex_at-digits.ensures ∙ c.in-Read.is in
-    sym (part_ends a.line.now a.from _ letters (omega arith) (omega arith) (search rules) _ _ read (λ h. search rules))
-
-pub returns-else-next-line : goal.returns-else-next-line
-returns-else-next-line c =
-    let a = c.args in
-    let letters = c.letters_end-colon.ensures in
-    let read = sym c.hex_at-digits.ensures ∙ c.in-Read.is in
-    sym (part_ends a.line.now a.from _ letters (omega arith) (omega arith) (search rules) _ _ read (λ h. absurd (omega arith)))
