@@ -10,7 +10,6 @@ use Rattle.std.proofs.Math.ListN.{length, drop, length-drop, get_or-eq_default}
 use Rattle.std.proofs.Math.Seq.{length-take-le}
 use Rattle.text.specs.Text.{span, within, is_not, is_letter}
 use Rattle.text.specs.Laws.{span_le, span_next, every_narrower, span_drop, drop_run, span_ends, span_goes_on}
-use Rattle.numeral.specs.declared.hex.Number.TheVariants.{Bad}
 use Rattle.numeral.specs.declared.Numeral.TheVariants as numeral
 use Rattle.numeral.specs.declared.Numeral.TheVariants.{Read}
 use Rattle.numeral.specs.Hex.{digit_of, is_digit, hex_value, shaped, hex_of, hex_run_at}
@@ -18,7 +17,7 @@ use Rattle.numeral.specs.HexRunLaws.{whole, hex_of_part}
 use Rattle.line.specs.declared.field.Part.TheVariants as part
 use Rattle.names.specs.Names.{comma, part_from}
 use Rattle.names.specs.PartsLaws.{length_part, letters_size, letters_in}
-use Rattle.line.specs.Field.{Field, colon, valued, field_of, part_at}
+use Rattle.line.specs.Field.{colon, valued, field_of, part_at}
 
 -- ## Digits are no commas
 digit_not_comma : (x : ℕ) → is_digit x ≡ true → is_not comma x ≡ true

@@ -2,7 +2,7 @@
 --
 --   Within m h  of a head that is not refused: its numbers, in an image of length m
 --   head_body   a page's items begin inside the page, the page ends inside the image, and its keys are fewer than 2^31
-use Rattle.std.specs.Prelude.{ℕ, ◌+◌, ◌-◌, ◌^◌, ◌<◌, ◌≤◌, ◌≡◌, refl, List, Bool, true, false, cond, ◌&&◌, eqb, ltb, leb, get_or, take}
+use Rattle.std.specs.Prelude.{ℕ, ◌+◌, ◌-◌, ◌^◌, ◌<◌, ◌≤◌, ◌≡◌, refl, List, Bool, true, false, cond, eqb, ltb, leb, get_or, take}
 use Rattle.std.proofs.Math.Bool.{and-false, and-eq-true_iff}
 use Rattle.std.proofs.Common.{arith}
 use borrow.Author.Tests.{leb-true, lt-leb, ltb-true}
