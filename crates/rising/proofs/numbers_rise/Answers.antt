@@ -1,7 +1,6 @@
 use borrow.Author.Rules.{rules}
 use Rattle.item.specs.Item.{item_at}
 use Rattle.page.specs.Judged.{key_form}
-use Rattle.rising.specs.declared.Bound.TheVariants as bound
 use Rattle.rising.specs.RisingLaws.{rise_none, rise_bad, rise_more, rise_falls}
 use Rattle.rising.proofs.numbers_rise.Goals as goal
 

@@ -1,5 +1,4 @@
 use borrow.Author.Rules.{rules}
-use Rattle.rising.specs.declared.Bound.TheVariants as bound
 use Rattle.rising.specs.RisingLaws.{rise_none, rise_bad, rise_more, rise_falls}
 use Rattle.rising.proofs.rise_each.Goals as goal
 
