@@ -1,6 +1,5 @@
 pub mod Names
 pub mod Image
 pub mod Chunk
-pub mod NamesLaws
 pub mod ImageLaws
 pub mod ChunkLaws

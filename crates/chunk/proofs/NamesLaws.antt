@@ -1,6 +1,6 @@
 -- What a reading says of a name is what its line's field of that name says.
 use Rattle.std.specs.Prelude.{ℕ, ◌<◌, ◌≡◌, refl, true, false, List, length, take}
-use Rattle.std.proofs.Common.{sym, ◌∙◌, ap, true≢false}
+use Rattle.std.proofs.Common.{sym, ◌∙◌, ap, true≢false, arith}
 use Rattle.std.proofs.Math.Option.{Option, none, some}
 use Rattle.std.proofs.lemmas.List.{get_or-replicate}
 use Rattle.line.specs.declared.Line.TheVariants.{At}
@@ -24,7 +24,7 @@ pub record Tells (r : Reading) (line name : List ℕ) : Type 0 where
 
 module _ (line name : List ℕ) (k : Known name) where
   none_given : fields_of line ≡ none → given_of (read_of line) name ≡ false
-  none_given e = rw (read_bad line e) (get_or-replicate 11 (slot_of name) false false k)
+  none_given e = rw (read_bad line e) (get_or-replicate 11 _ false false (grind arith))
 
   module _ (fs : List Field) (e : fields_of line ≡ some fs) where
     some_given : given_of (read_of line) name ≡ has name fs
