@@ -7,7 +7,7 @@ use Rattle.chunk.specs.Chunk.{needed, fitting}
 use Rattle.chunk.specs.Image.{blocks_in, chunk_line}
 use mathlib.Core.Bool.{true}
 use Rattle.chunk.specs.ImageLaws.{blocks_most, newline_small}
-use Rattle.chunk.specs.ChunkLaws.{Fits, fitting_fits, said_header, said_unneeded, said_unfit, said_fit, said_past}
+use Rattle.chunk.specs.ChunkLaws.{fitting_fits, said_header, said_unneeded, said_unfit, said_fit, said_past}
 use Rattle.chunk.proofs.said_at.Goals as goal
 
 pub returns-then-b-lt2 : goal.returns-then-b-lt2
