@@ -16,7 +16,6 @@ use Rattle.cursor.specs.Walk.{fresh, closed, done_number, yield_of, settled}
 use Rattle.store.specs.AskLaws.{entries_key}
 use Rattle.store.specs.Walk.{step_in, Walks}
 use Rattle.store.specs.WalkedLaws.{sound_walks}
-use Rattle.walk.specs.declared.Next.TheVariants as next
 use Rattle.walk.specs.Stepping.{step_of, WalksOf}
 use Rattle.walk.specs.Given.{next_by, step_by}
 use Rattle.walk.specs.WalkLaws.{after_open, step_asked, step_done}

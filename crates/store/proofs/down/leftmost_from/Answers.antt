@@ -1,6 +1,4 @@
-use Prim.Native.Nat.{◌-◌}
 use mathlib.Core.Path.{refl}
-use mathlib.Core.Logic.{⊎_elim}
 use native.Mathlib.Omega.{arith}
 use Rattle.store.specs.WayLaws.{lefting_start, lefting_deep, lefting_refused, lefting_entry, lefting_over}
 use Rattle.store.specs.WayLaws.{lefting_empty, lefting_last, lefting_child}

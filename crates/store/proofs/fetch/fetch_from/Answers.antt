@@ -1,6 +1,5 @@
 use mathlib.Core.Path.{refl, sym, ◌∙◌}
 use native.Mathlib.Omega.{arith}
-use Rattle.tree.specs.Asking.{index}
 use Rattle.store.specs.AskLaws.{index_empty, index_root, index_deep, index_child, index_done}
 use Rattle.position.specs.Laws.{empty_zero, full_other}
 use borrow.Author.Rules.{rules}
