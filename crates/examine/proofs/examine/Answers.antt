@@ -1,7 +1,7 @@
 use mathlib.Core.Path.{sym, ◌∙◌, ap}
 use Rattle.soundness.specs.Examining.{examined_of}
 use Rattle.examine.specs.Examine.{examine_of}
-use Rattle.map.specs.MapLaws.{asking_bad, asking_told, asked_refused, asked_told}
+use Rattle.map.proofs.MapLaws.{asking_bad, asking_told, asked_refused, asked_told}
 use Rattle.examine.proofs.examine.Goals as goal
 
 pub returns-in-Refused : goal.returns-in-Refused

@@ -1,6 +1,6 @@
 use mathlib.Core.Path.{refl, sym, ◌∙◌, ap}
 use Rattle.soundness.specs.Examining.{examined_of}
-use Rattle.map.specs.MapLaws.{asking_shut, asking_open}
+use Rattle.map.proofs.MapLaws.{asking_shut, asking_open}
 use Rattle.viewing.specs.Viewing.{store_said}
 use Rattle.examine.proofs.examine_in.Goals as goal
 

@@ -1,7 +1,7 @@
 use mathlib.Core.Path.{sym, ◌∙◌, ap}
 use native.Mathlib.Omega.{arith}
 use Rattle.refusal.specs.Refusal.{refuse}
-use Rattle.map.specs.MapLaws.{asked_kind, asked_large, asked_text, asked_metadata, asked_number}
+use Rattle.map.proofs.MapLaws.{asked_kind, asked_large, asked_text, asked_metadata, asked_number}
 use Rattle.map.proofs.asked.Goals as goal
 
 pub returns-then-kind-gt1 : goal.returns-then-kind-gt1

@@ -1,7 +1,7 @@
 use mathlib.Core.Path.{sym, ◌∙◌, ap}
 use Rattle.store.specs.Asking.{counted_of}
 use Rattle.map.specs.Map.{count_of}
-use Rattle.map.specs.MapLaws.{asking_bad, asking_told, asked_refused, asked_told}
+use Rattle.map.proofs.MapLaws.{asking_bad, asking_told, asked_refused, asked_told}
 use Rattle.map.proofs.count.Goals as goal
 
 pub returns-in-Refused : goal.returns-in-Refused

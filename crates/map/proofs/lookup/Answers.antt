@@ -1,6 +1,6 @@
 use mathlib.Core.Path.{sym, ◌∙◌, ap}
 use Rattle.store.specs.Asking.{value_of}
-use Rattle.map.specs.MapLaws.{asked_refused, asked_told, lookup_bad, lookup_asked}
+use Rattle.map.proofs.MapLaws.{asked_refused, asked_told, lookup_bad, lookup_asked}
 use Rattle.map.proofs.lookup.Goals as goal
 
 pub returns-in-Refused : goal.returns-in-Refused

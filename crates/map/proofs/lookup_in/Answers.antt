@@ -1,7 +1,7 @@
 use mathlib.Core.Path.{sym, ◌∙◌, ap}
 use Rattle.metadata.specs.declared.Value.TheVariants as value
 use Rattle.store.specs.Asking.{value_of}
-use Rattle.map.specs.MapLaws.{asking_bad, asking_shut, asking_open, keyed_bad, keyed_well}
+use Rattle.map.proofs.MapLaws.{asking_bad, asking_shut, asking_open, keyed_bad, keyed_well}
 use Rattle.viewing.specs.Viewing.{store_said}
 use Rattle.map.proofs.lookup_in.Goals as goal
 

@@ -1,6 +1,6 @@
 use mathlib.Core.Path.{sym, ◌∙◌, ap}
 use Rattle.refusal.specs.Refusal.{refuse}
-use Rattle.map.specs.MapLaws.{named_bad, named_shut, named_open}
+use Rattle.map.proofs.MapLaws.{named_bad, named_shut, named_open}
 use Rattle.viewing.specs.Viewing.{store_said}
 use Rattle.map.proofs.named.Goals as goal
 

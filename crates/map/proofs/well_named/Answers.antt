@@ -1,6 +1,6 @@
 use mathlib.Core.Path.{sym, ◌∙◌}
 use native.Mathlib.Omega.{arith}
-use Rattle.map.specs.MapLaws.{unnamed_short, unnamed_long, named_letters}
+use Rattle.map.proofs.MapLaws.{unnamed_short, unnamed_long, named_letters}
 use Rattle.map.proofs.well_named.Goals as goal
 
 pub returns-then-name-lt1 : goal.returns-then-name-lt1

@@ -1,5 +1,5 @@
 use mathlib.Core.Path.{sym, ◌∙◌}
-use Rattle.map.specs.MapLaws.{asked_refused, asked_told}
+use Rattle.map.proofs.MapLaws.{asked_refused, asked_told}
 use Rattle.walk.specs.WalkLaws.{table_small, step_done, step_again, step_bad, step_asked}
 use borrow.Author.Rules.{rules}
 use Rattle.walk.proofs.advance.Goals as goal

@@ -1,7 +1,7 @@
 use mathlib.Core.Path.{◌∙◌}
 use native.Mathlib.Omega.{arith}
 use lib.ListN.{length}
-use Rattle.map.specs.MapLaws.{copy_inside, copy_refuses, copy_refused, copy_answers, copy_written, copy_none, copy_kept}
+use Rattle.map.proofs.MapLaws.{copy_inside, copy_refuses, copy_refused, copy_answers, copy_written, copy_none, copy_kept}
 use Rattle.map.proofs.copying.copy.Goals as goal
 
 pub returns-then-area-len : goal.returns-then-area-len

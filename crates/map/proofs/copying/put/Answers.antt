@@ -3,7 +3,7 @@ use mathlib.Core.Path.{◌≡◌}
 use native.Mathlib.Omega.{arith}
 use lib.ListN.{drop, length-set, length-drop}
 use lib.Seq.{get_or-drop}
-use Rattle.map.specs.MapLaws.{put_more}
+use Rattle.map.proofs.MapLaws.{put_more}
 use Rattle.map.proofs.copying.put.Goals as goal
 
 pub loop-i-preserved : goal.loop-i-preserved

@@ -1,6 +1,6 @@
 use mathlib.Core.Path.{sym, ◌∙◌, ap}
 use Rattle.map.specs.Map.{item_of, index_of}
-use Rattle.map.specs.MapLaws.{asking_bad, asking_told, asked_refused, asked_told}
+use Rattle.map.proofs.MapLaws.{asking_bad, asking_told, asked_refused, asked_told}
 use Rattle.map.proofs.entry.index.Goals as goal
 
 pub returns-in-Refused : goal.returns-in-Refused

@@ -1,6 +1,6 @@
 use mathlib.Core.Path.{refl, sym, ◌∙◌, ap}
 use Rattle.map.specs.Map.{item_of, item_by}
-use Rattle.map.specs.MapLaws.{asking_shut, asking_open, item_fetched}
+use Rattle.map.proofs.MapLaws.{asking_shut, asking_open, item_fetched}
 use Rattle.viewing.specs.Viewing.{store_said}
 use Rattle.map.proofs.entry.index_in.Goals as goal
 

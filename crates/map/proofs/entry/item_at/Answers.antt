@@ -1,4 +1,4 @@
-use Rattle.map.specs.MapLaws.{item_number, item_text}
+use Rattle.map.proofs.MapLaws.{item_number, item_text}
 use borrow.Author.Rules.{rules}
 use Rattle.map.proofs.entry.item_at.Goals as goal
 
