@@ -1,4 +1,2 @@
 pub mod Examine
 pub mod Demand3
-pub mod Theorem
-pub mod Walked

@@ -21,7 +21,7 @@ use Rattle.walk.specs.Stepping.{step_of, WalksOf}
 use Rattle.walk.specs.Given.{next_by, step_by}
 use Rattle.walk.specs.WalkLaws.{after_open, step_asked, step_done}
 use Rattle.examine.specs.Demand3.{Map, entry_list, Passes}
-use Rattle.examine.specs.Theorem.{passes_sound}
+use Rattle.examine.proofs.Theorem.{passes_sound}
 
 -- a state that a step yields from is going on
 going_on : (w v : Walk) (e : Key × Entry) (m : Moved (Key × Entry)) → settled w m ≡ record { walk = v; got = yield_of e } → v.last ≡ 0
