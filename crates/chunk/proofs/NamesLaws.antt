@@ -1,7 +1,6 @@
 -- What a reading says of a name is what its line's field of that name says.
-use Rattle.std.specs.Prelude.{ℕ, ◌<◌, ◌≡◌, refl, true, false, List, length, take}
+use Rattle.std.specs.Prelude.{ℕ, ◌<◌, ◌≡◌, refl, true, false, List, length, take, None, Option, Some}
 use Rattle.std.proofs.Common.{sym, ◌∙◌, ap, true≢false, arith}
-use Rattle.std.proofs.Math.Option.{Option, none, some}
 use Rattle.std.proofs.lemmas.List.{get_or-replicate}
 use Rattle.line.specs.declared.Line.TheVariants.{At}
 use Rattle.line.specs.Field.{Field}
@@ -20,17 +19,17 @@ Known name = slot_of name < length known
 -- the reading has the name exactly where the line is good and one of its fields has it, and the value is that field's value
 pub record Tells (r : Reading) (line name : List ℕ) : Type 0 where
   pub given : gives r name ≡ on_some (fields_of line) false (has name)
-  pub valued : gives r name ≡ true → on_some (fields_of line) none (value_in name) ≡ some (value r name)
+  pub valued : gives r name ≡ true → on_some (fields_of line) None (value_in name) ≡ Some (value r name)
 
 module _ (line name : List ℕ) (k : Known name) where
-  none_given : fields_of line ≡ none → given_of (read_of line) name ≡ false
+  none_given : fields_of line ≡ None → given_of (read_of line) name ≡ false
   none_given e = rw (read_bad line e) (get_or-replicate 11 _ false false (grind arith))
 
-  module _ (fs : List Field) (e : fields_of line ≡ some fs) where
+  module _ (fs : List Field) (e : fields_of line ≡ Some fs) where
     some_given : given_of (read_of line) name ≡ has name fs
     some_given = read_given line fs e (slot_of name) k ∙ ap (λ (n : List ℕ). has n fs) (slot_name name k)
 
-    some_valued : given_of (read_of line) name ≡ true → value_in name fs ≡ some (value_of (read_of line) name)
+    some_valued : given_of (read_of line) name ≡ true → value_in name fs ≡ Some (value_of (read_of line) name)
     some_valued g = ap (λ (n : List ℕ). value_in n fs) (sym (slot_name name k)) ∙ read_present line fs e (slot_of name) k g
 
 -- every known name, of every line: the first n bytes of an area
@@ -41,10 +40,10 @@ plain_tells area n newline name k = record { given = given (fields_of line) refl
     line = take n area
 
     given : (o : Option (List Field)) → fields_of line ≡ o → given_of (read_of line) name ≡ on_some o false (has name)
-    given none e = none_given line name k e
-    given (some fs) e = some_given line name k fs e
+    given None e = none_given line name k e
+    given (Some fs) e = some_given line name k fs e
 
     valued : (o : Option (List Field)) → fields_of line ≡ o → given_of (read_of line) name ≡ true →
-        on_some o none (value_in name) ≡ some (value_of (read_of line) name)
-    valued none e g = absurd (true≢false (sym g ∙ none_given line name k e))
-    valued (some fs) e g = some_valued line name k fs e g
+        on_some o None (value_in name) ≡ Some (value_of (read_of line) name)
+    valued None e g = absurd (true≢false (sym g ∙ none_given line name k e))
+    valued (Some fs) e g = some_valued line name k fs e g

@@ -8,9 +8,8 @@
 --   page_in image c p map kind                    the page at a position in a chunk: its refusal, or the page as data
 --   pick j i ns                                   the child that has index i, by the recorded counts ns from number j on, and what is left of the index
 --   probe_at s kind i k                           the key at a place against the key k
-use Rattle.std.specs.Prelude.{ℕ, ◌+◌, ◌-◌, List, [], ◌∷◌, map, true, false, cond, ltb, take, drop}
-use Rattle.std.proofs.Math.Option.{Option, none, some}
-use Rattle.refusal.specs.Refusal.{Outcome, ok, refuse}
+use Rattle.std.specs.Prelude.{ℕ, ◌+◌, ◌-◌, List, [], ◌∷◌, map, true, false, cond, ltb, take, drop, Err, None, Ok, Option, Some}
+use Rattle.refusal.specs.Refusal.{Outcome}
 use Rattle.numeral.specs.BigEndian.{big_endian_at}
 use Rattle.key.specs.declared.Kind.{Kind}
 use Rattle.key.specs.Key.{Key, key_of, compare_keys}
@@ -60,19 +59,19 @@ unfoldable pub entries_in : List ℕ → Kind → ℕ → ℕ → ℕ → List (
 entries_in s kind n keys values = paired s kind (up_to (items s (key_form kind)) n keys) (up_to (items s Bytes) n values)
 
 unfoldable pub page_of : List ℕ → Kind → Judged → Outcome (Page Key Entry)
-page_of image kind (Refused r) = refuse r
-page_of image kind (Leaf n keys values e) = ok (leaf (entries_in (take e image) kind n keys values))
+page_of image kind (Refused r) = Err r
+page_of image kind (Leaf n keys values e) = Ok (leaf (entries_in (take e image) kind n keys values))
 page_of image kind (Inner n positions counts keys e total) =
     let s = take e image in
-    ok (inner (children_of (positions_in s (n + 1) positions) (counts_in s (n + 1) counts) (keys_in s kind n keys)))
+    Ok (inner (children_of (positions_in s (n + 1) positions) (counts_in s (n + 1) counts) (keys_in s kind n keys)))
 
 unfoldable pub page_in : List ℕ → Place → ℕ → ℕ → Kind → Outcome (Page Key Entry)
 page_in image c p map kind = page_of image kind (judged_at image c p map kind)
 
 -- "the child is chosen by the recorded counts, left to right"
 unfoldable pub pick : ℕ → ℕ → List ℕ → Option (ℕ × ℕ)
-pick j i [] = none
-pick j i (n ∷ ns) = cond (ltb i n) (some (j, i)) (pick (j + 1) (i - n) ns)
+pick j i [] = None
+pick j i (n ∷ ns) = cond (ltb i n) (Some (j, i)) (pick (j + 1) (i - n) ns)
 
 unfoldable pub probe_at : List ℕ → Kind → ℕ → Key → Probe
 probe_at s kind i k =
@@ -81,13 +80,13 @@ probe_at s kind i k =
 
 -- ## What the code hands back
 abbrev pub found_of : Option Entry → Found
-found_of (some e) = At e.value.at e.value.len
-found_of none = Absent
+found_of (Some e) = At e.value.at e.value.len
+found_of None = Absent
 
 abbrev pub picked_of : Option (ℕ × ℕ) → Picked
-picked_of (some p) = Child p.0 p.1
-picked_of none = Over
+picked_of (Some p) = Child p.0 p.1
+picked_of None = Over
 
 abbrev pub nth_of : Option (Key × Entry) → Nth
-nth_of (some e) = nth.Entry e.1.key.at e.1.key.len e.1.value.at e.1.value.len
-nth_of none = nth.Out
+nth_of (Some e) = nth.Entry e.1.key.at e.1.key.len e.1.value.at e.1.value.len
+nth_of None = nth.Out

@@ -11,8 +11,8 @@ use mathlib.Core.List.{List, [], ◌∷◌}
 use Rattle.std.proofs.Math.Logic.{inl, inr}
 use Rattle.std.proofs.Math.Bool.{cond, true≢false}
 use native.Mathlib.Omega.{arith}
-use Rattle.order.specs.declared.Order.{Order}
-use Rattle.order.specs.declared.Order.TheVariants as order
+use Rattle.std.specs.declared.cmp.Ordering.{Ordering}
+use Rattle.std.specs.declared.cmp.Ordering.TheVariants as order
 use Rattle.order.specs.Order.{below}
 use Rattle.key.specs.declared.Kind.{Kind}
 use Rattle.key.specs.declared.sized.Sized.{Sized}
@@ -60,7 +60,7 @@ module _ (s : List ℕ) (kind : Kind) (k : Key) where
   probe_bad i e = rw e
 
   seen_at : (i : ℕ) (spot : Spot) (after : ℕ) {next : ℕ} {same : Bool} → items s (key_form kind) i ≡ got spot after
-      → (o : Order) → compare_keys (key_in s kind spot) k ≡ o → three o (UpTo after false) (UpTo after true) Stop ≡ UpTo next same → Seen i next same
+      → (o : Ordering) → compare_keys (key_in s kind spot) k ≡ o → three o (UpTo after false) (UpTo after true) Stop ≡ UpTo next same → Seen i next same
   seen_at i spot after {next} {same} r order.Less q e =
       let n : after ≡ next = cc in
       let t : false ≡ same = cc in
@@ -80,7 +80,7 @@ module _ (s : List ℕ) (kind : Kind) (k : Key) where
       go Bad q = absurd (let f : Stop ≡ UpTo next same = rw q at e in true≢false cc)
 
   greater_at : (i : ℕ) (spot : Spot) (after : ℕ) → items s (key_form kind) i ≡ got spot after
-      → (o : Order) → compare_keys (key_in s kind spot) k ≡ o → three o (UpTo after false) (UpTo after true) Stop ≡ Stop → Greater i
+      → (o : Ordering) → compare_keys (key_in s kind spot) k ≡ o → three o (UpTo after false) (UpTo after true) Stop ≡ Stop → Greater i
   greater_at i spot after r order.Less q e = absurd (true≢false cc)
   greater_at i spot after r order.Equal q e = absurd (true≢false cc)
   greater_at i spot after r order.Greater q e = record { spot = spot; next = after; reads = r; order = q }

@@ -2,12 +2,11 @@
 --
 --   entry_of k v  the entry with the key k and the value v
 use Prim.Native.Nat.{ℕ, zero, suc, ◌+◌, ◌*◌, ◌≤◌, ◌<◌}
-use Rattle.std.specs.Prelude.{◌≡◌, Bool, true, false, leb, length}
+use Rattle.std.specs.Prelude.{◌≡◌, Bool, true, false, leb, length, None, Option, Some, slice_get}
 use Rattle.std.proofs.Math.Path.{refl}
 use Rattle.std.proofs.Common.{◌∙◌, ap, arith, leb-true, leb-false}
 use mathlib.Core.List.{List, [], ◌∷◌, map}
-use Rattle.std.proofs.Math.Option.{Option, none, some}
-use Rattle.std.proofs.Math.ListN.{get_or, get_elem?}
+use Rattle.std.proofs.Math.ListN.{get_or}
 use Rattle.numeral.specs.BigEndian.{big_endian_at}
 use Rattle.key.specs.declared.Kind.{Kind}
 use Rattle.item.specs.declared.Form.TheVariants.{Word}
@@ -64,14 +63,14 @@ entry_of (numbered.At key size) numbered.Out = nth.Out
 entry_of numbered.Out v = nth.Out
 
 pub paired_nth : (s : List ℕ) (kind : Kind) (ks vs : List Spot) (k : ℕ)
-    → nth_of (get_elem? (paired s kind ks vs) k) ≡ entry_of (numbered_of (get_elem? ks k)) (numbered_of (get_elem? vs k))
+    → nth_of (slice_get (paired s kind ks vs) k) ≡ entry_of (numbered_of (slice_get ks k)) (numbered_of (slice_get vs k))
 unfolding paired
 paired_nth s kind [] vs k = refl
 paired_nth s kind (a ∷ ks) [] zero = refl
-paired_nth s kind (a ∷ ks) [] (suc k) = go (get_elem? ks k)
+paired_nth s kind (a ∷ ks) [] (suc k) = go (slice_get ks k)
   where
     go : (o : Option Spot) → nth.Out ≡ entry_of (numbered_of o) numbered.Out
-    go (some x) = refl
-    go none = refl
+    go (Some x) = refl
+    go None = refl
 paired_nth s kind (a ∷ ks) (b ∷ vs) zero = refl
 paired_nth s kind (a ∷ ks) (b ∷ vs) (suc k) = paired_nth s kind ks vs k

@@ -4,14 +4,13 @@
 --   Whole image kind j       the same of what a page was judged to be
 --   children_in s kind n ..  the children of an inner page, by the places of its parts
 use Prim.Native.Nat.{ℕ, zero, suc, ◌+◌, ◌^◌, ◌≤◌, ◌<◌}
-use Rattle.std.specs.Prelude.{◌≡◌, take}
+use Rattle.std.specs.Prelude.{◌≡◌, take, None, Ok, Option, Some}
 use Rattle.std.proofs.Math.Path.{refl, ap}
 use Rattle.std.proofs.Common.{◌∙◌, true≢false}
 use mathlib.Core.List.{List, [], ◌∷◌, map}
-use Rattle.std.proofs.Math.Option.{Option, none, some}
 use native.Mathlib.Omega.{arith}
 use Rattle.std.proofs.Math.ListN.{length, length-map}
-use Rattle.refusal.specs.Refusal.{Outcome, ok}
+use Rattle.refusal.specs.Refusal.{Outcome}
 use Rattle.key.specs.declared.Kind.{Kind}
 use Rattle.key.specs.Key.{Key}
 use Rattle.page.specs.declared.Place.{Place}
@@ -93,7 +92,7 @@ keys_whole {s} {kind} {n} {keys} {values} w =
 -- ## Of an inner page
 module _ (s : List ℕ) where
   -- the sum that the cursor has is the counts'
-  counts_sum : (n : ℕ) (c : ℕ × ℕ) {d : ℕ × ℕ} → c.1 < count_limit → after (count_at s) n c ≡ some d
+  counts_sum : (n : ℕ) (c : ℕ × ℕ) {d : ℕ × ℕ} → c.1 < count_limit → after (count_at s) n c ≡ Some d
       → (c.1 + sum (up_to (count_at s) n c) ≡ d.1) × (d.1 < count_limit)
   unfolding after up_to
   counts_sum zero c {d} h e =
@@ -103,9 +102,9 @@ module _ (s : List ℕ) where
   counts_sum (suc n) c {d} h e = go (λ b. counts_sum n b) (count_at s c) refl e
     where
       Sums : ℕ × ℕ → Type 0
-      Sums b = b.1 < count_limit → after (count_at s) n b ≡ some d → (b.1 + sum (up_to (count_at s) n b) ≡ d.1) × (d.1 < count_limit)
+      Sums b = b.1 < count_limit → after (count_at s) n b ≡ Some d → (b.1 + sum (up_to (count_at s) n b) ≡ d.1) × (d.1 < count_limit)
 
-      go : ((b : ℕ × ℕ) → Sums b) → (t : Step ℕ (ℕ × ℕ)) → count_at s c ≡ t → on_step t none (λ a b. after (count_at s) n b) ≡ some d
+      go : ((b : ℕ × ℕ) → Sums b) → (t : Step ℕ (ℕ × ℕ)) → count_at s c ≡ t → on_step t None (λ a b. after (count_at s) n b) ≡ Some d
           → (c.1 + sum (on_step t [] (λ a b. a ∷ up_to (count_at s) n b)) ≡ d.1) × (d.1 < count_limit)
       go ih (got v b) q k =
           let one = count_sum s c q in
@@ -120,11 +119,11 @@ module _ (s : List ℕ) where
     where
       go : (o : Option (ℕ × ℕ)) → after (count_at s) n (i, 0) ≡ o → counted_of o ≡ sums.Sum total next
           → (length (up_to (count_at s) n (i, 0)) ≡ n) × (sum (up_to (count_at s) n (i, 0)) ≡ total) × (total < count_limit)
-      go (some d) q h =
+      go (Some d) q h =
           let f : d.1 ≡ total = cc in
           let r = counts_sum n (i, 0) (omega arith) q in
           (up_to-length (count_at s) n (i, 0) q, omega arith, omega arith)
-      go none q h = absurd (true≢false cc)
+      go None q h = absurd (true≢false cc)
 
   inner_whole : (kind : Kind) (n positions counts keys : ℕ) {e total : ℕ} → InnerPassed s kind n positions counts keys e total
       → InnerWhole s kind n positions counts keys total
@@ -169,22 +168,22 @@ module _ {s : List ℕ} {kind : Kind} {n positions counts keys sum : ℕ} (w : I
       (omega (arith, w.all_counts, w.all_keys))
 
 module _ (image : List ℕ) (c : Place) (p map : ℕ) (kind : Kind) where
-  pub leaf_below : {es : List (Key × Entry)} → page_in image c p map kind ≡ ok (leaf es) → length es < 2 ^ 31
+  pub leaf_below : {es : List (Key × Entry)} → page_in image c p map kind ≡ Ok (leaf es) → length es < 2 ^ 31
   unfolding page_in page_of
   leaf_below {es} e = go (judged_at image c p map kind) (judged_whole image c p map kind) e
     where
-      go : (j : Judged) → Whole image kind j → page_of image kind j ≡ ok (leaf es) → length es < 2 ^ 31
+      go : (j : Judged) → Whole image kind j → page_of image kind j ≡ Ok (leaf es) → length es < 2 ^ 31
       go (Refused r) w q = absurd (true≢false cc)
       go (Leaf n keys values e) w q =
           let f : entries_in (take e image) kind n keys values ≡ es = cc in
           omega (arith, w.few, w.all_entries, ap length f)
       go (Inner n positions counts keys e total) w q = absurd (true≢false cc)
 
-  pub inner_below : {cs : Children Key} → page_in image c p map kind ≡ ok (inner cs) → total cs < 2 ^ 48
+  pub inner_below : {cs : Children Key} → page_in image c p map kind ≡ Ok (inner cs) → total cs < 2 ^ 48
   unfolding page_in page_of
   inner_below {cs} e = go (judged_at image c p map kind) (judged_whole image c p map kind) e
     where
-      go : (j : Judged) → Whole image kind j → page_of image kind j ≡ ok (inner cs) → total cs < 2 ^ 48
+      go : (j : Judged) → Whole image kind j → page_of image kind j ≡ Ok (inner cs) → total cs < 2 ^ 48
       go (Refused r) w q = absurd (true≢false cc)
       go (Leaf n keys values e) w q = absurd (true≢false cc)
       go (Inner n positions counts keys e sum) w q =

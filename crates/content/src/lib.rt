@@ -5,8 +5,7 @@
 mod numbers;
 mod texts;
 
-ghost use Rattle.std.specs.Prelude.{◌≡◌, ◌+◌, get_or};
-ghost use Rattle.std.proofs.Math.ListN.{get_elem?};
+ghost use Rattle.std.specs.Prelude.{◌≡◌, ◌+◌, get_or, slice_get};
 ghost use Rattle.key.specs.Key.{key_of, compare_keys};
 ghost use Rattle.tree.specs.Asking.{find_in};
 ghost use Rattle.tree.specs.InnerPage.{lead};
@@ -16,7 +15,7 @@ ghost use Rattle.content.specs.Content.{keys_in, entries_in, positions_in, count
 use item::{Form, Numbered};
 use key::{Kind, Sized};
 use numeral::Numeral;
-use order::Order;
+use std::cmp::Ordering;
 use position::Position;
 
 // A key against a given one: not greater, and whether it is equal, with the place after it; or
@@ -62,9 +61,9 @@ pub fn probe_key(s: &[u8], kind: Kind, i: usize, key: &[u8]) -> Probe
     };
     let o = key::compare(kind, &s[at..next], key);
     match o {
-        Order::Less => Probe::UpTo { next, same: false },
-        Order::Equal => Probe::UpTo { next, same: true },
-        Order::Greater => Probe::Stop,
+        Ordering::Less => Probe::UpTo { next, same: false },
+        Ordering::Equal => Probe::UpTo { next, same: true },
+        Ordering::Greater => Probe::Stop,
     }
 }
 
@@ -155,7 +154,7 @@ pub fn find_key(s: &[u8], kind: Kind, n: u32, keys: usize, values: usize, key: &
 
 // Entry number `k` of a leaf, from 0.
 pub fn entry(s: &[u8], kind: Kind, n: u32, keys: usize, values: usize, k: u64) -> Nth
-    ensures { result ≡ nth_of (get_elem? (entries_in s.now kind n keys values) k) }
+    ensures { result ≡ nth_of (slice_get (entries_in s.now kind n keys values) k) }
 {
     let a = item::nth_item(s, page::key_form(kind), n as u64, keys, k);
     let Numbered::At { at: key, len: size } = a else {

@@ -6,9 +6,7 @@
 --   empty_step w             the step in an empty map
 --   numbered from l n depth  the numbers before place l, then n, then zeros
 --   left_step w l n m        the step to the leftmost entry m under the page that place l leads to with number n
-use Rattle.std.specs.Prelude.{ℕ, ◌+◌, ◌-◌, Bool, true, false, cond, List, ◌∷◌, ◌++◌, eqb, ltb, leb, get_or, take, replicate}
-use Rattle.std.proofs.Math.Option.{Option, none, some}
-use Rattle.std.proofs.Math.ListN.{get_elem?}
+use Rattle.std.specs.Prelude.{ℕ, ◌+◌, ◌-◌, Bool, true, false, cond, List, ◌∷◌, ◌++◌, eqb, ltb, leb, get_or, take, replicate, None, Option, Some, slice_get}
 use Rattle.refusal.specs.Refusal.{unsound}
 use Rattle.position.specs.declared.Position.{Position}
 use Rattle.position.specs.Position.{of_bits}
@@ -30,8 +28,8 @@ use Rattle.cursor.specs.Walk.{closed, done_number}
 
 -- ## One page
 abbrev pub entry_after : Option (Key × Entry) → After
-entry_after (some e) = after.Entry e.1.key.at e.1.key.len e.1.value.at e.1.value.len
-entry_after none = after.Over
+entry_after (Some e) = after.Entry e.1.key.at e.1.key.len e.1.value.at e.1.value.len
+entry_after None = after.Over
 
 -- an inner page takes a number that is not the last
 unfoldable pub after_child : List ℕ → ℕ → ℕ → ℕ → ℕ → Bool → After
@@ -46,13 +44,13 @@ unfoldable pub after_of : List ℕ → Kind → ℕ → Bool → Judged → Afte
 after_of image kind i last (judged.Refused r) = after.Refused r
 after_of image kind i false (judged.Leaf n keys values e) = after.Refused unsound
 after_of image kind i true (judged.Leaf n keys values e) =
-    cond (leb n i) (after.Refused unsound) (entry_after (get_elem? (entries_in (take e image) kind n keys values) (i + 1)))
+    cond (leb n i) (after.Refused unsound) (entry_after (slice_get (entries_in (take e image) kind n keys values) (i + 1)))
 after_of image kind i last (judged.Inner n positions counts keys e total) = after_child image n positions e i last
 
 -- the leftmost way: the first entry, or the first child
 unfoldable pub first_of : List ℕ → Kind → Judged → After
 first_of image kind (judged.Refused r) = after.Refused r
-first_of image kind (judged.Leaf n keys values e) = entry_after (get_elem? (entries_in (take e image) kind n keys values) 0)
+first_of image kind (judged.Leaf n keys values e) = entry_after (slice_get (entries_in (take e image) kind n keys values) 0)
 first_of image kind (judged.Inner n positions counts keys e total) =
     after.Last (of_bits (get_or (positions_in (take e image) (n + 1) positions) 0 0))
 

@@ -7,9 +7,8 @@
 --   state_after w m        the state after w when m is next
 --   settled w m            the step from w when m is next: that state, and the answer `yield_by m`
 --   moved_by read root is  what is next after the numbers of a state, in the map whose root is given
-use Rattle.std.specs.Prelude.{ℕ, ◌-◌, Bool, true, ◌&&◌, List, [], ◌∷◌, ◌++◌, eqb, leb, length, take, drop, replicate}
-use Rattle.std.proofs.Math.Option.{Option, none, some}
-use Rattle.refusal.specs.Refusal.{Outcome, ok, refuse, unsound}
+use Rattle.std.specs.Prelude.{ℕ, ◌-◌, Bool, true, ◌&&◌, List, [], ◌∷◌, ◌++◌, eqb, leb, length, take, drop, replicate, Err, None, Ok, Option, Some}
+use Rattle.refusal.specs.Refusal.{Outcome, unsound}
 use Rattle.key.specs.Key.{Key}
 use Rattle.tree.specs.Page.{branch, Page}
 use Rattle.tree.specs.Walk.{Moved, yield, over, stop, map_next}
@@ -36,7 +35,7 @@ unfoldable pub formed : Walk → Bool
 formed w = eqb w.last 0 && (leb w.depth 16 && zeros (drop w.depth w.places))
 
 abbrev pub numbers : Walk → Option (List ℕ)
-numbers w = branch (formed w) (some (take w.depth w.places)) none
+numbers w = branch (formed w) (Some (take w.depth w.places)) None
 
 abbrev pub leading : List ℕ → Walk
 leading is = record { places = is ++ replicate (16 - length is) 0; depth = length is; last = 0 }
@@ -63,9 +62,9 @@ settled w m = record { walk = state_after w m; got = yield_by m }
 
 -- "After the map is found, a state not so formed, then a number or depth that doesn't fit [..] refuses with 12"
 abbrev pub moved_by : (ℕ → Outcome (Page Key Entry)) → ℕ → Option (List ℕ) → Moved (Key × Entry)
-moved_by read root none = stop unsound
-moved_by read root (some is) = map_next read is root
+moved_by read root None = stop unsound
+moved_by read root (Some is) = map_next read is root
 
 abbrev pub moved_in : {A : Type 0} → Outcome A → (A → Moved (Key × Entry)) → Moved (Key × Entry)
-moved_in (ok x) go = go x
-moved_in (refuse r) go = stop r
+moved_in (Ok x) go = go x
+moved_in (Err r) go = stop r

@@ -2,8 +2,7 @@
 // passes answers every lookup, every index and the count as its entry list says.
 #![tactic(auto)]
 
-ghost use Rattle.std.specs.Prelude.{◌≡◌};
-ghost use Rattle.refusal.specs.Refusal.{ok};
+ghost use Rattle.std.specs.Prelude.{◌≡◌, Ok};
 ghost use Rattle.soundness.specs.Examining.{examined_of};
 ghost use Rattle.store.specs.Examining.{examine_in};
 ghost use Rattle.map.specs.Map.{asking};
@@ -17,7 +16,7 @@ use viewing::Viewed;
 
 // The examination of a map that may be asked for.
 fn examine_in(image: &[u8], view: View, id: u32, kind: Kind) -> Examined
-    ensures { result ≡ examined_of (asking (ok (id, kind)) image.now view (λ s i k. examine_in image.now s i k)) }
+    ensures { result ≡ examined_of (asking (Ok (id, kind)) image.now view (λ s i k. examine_in image.now s i k)) }
 {
     let o = viewing::open(image, view);
     match o {

@@ -7,10 +7,9 @@
 --   all_right       each gives what 01 says
 --   editions        texts whose sums the editions take apart, and texts that sum the same in both
 --   editions_right  each gives what was computed elsewhere
-use Rattle.std.specs.Prelude.{ℕ, ◌≡◌, refl, List, [], ◌∷◌, ◌++◌, replicate}
-use Rattle.std.proofs.Math.Option.{Option, none, some}
-use Rattle.order.specs.declared.Order.{Order}
-use Rattle.order.specs.declared.Order.TheVariants.{Less}
+use Rattle.std.specs.Prelude.{ℕ, ◌≡◌, refl, List, [], ◌∷◌, ◌++◌, replicate, None, Option, Some}
+use Rattle.std.specs.declared.cmp.Ordering.{Ordering}
+use Rattle.std.specs.declared.cmp.Ordering.TheVariants.{Less}
 use Rattle.text.specs.Text.{span, every, same, split}
 use Rattle.fletcher.specs.declared.Edition.TheVariants.{First, Second}
 use Rattle.fletcher.specs.Fletcher.{reduced, start, add_word, sums, fletcher_of}
@@ -36,7 +35,7 @@ use Rattle.opening.specs.Opening.{format_right, names_all, names_any, copy_of}
 
 pub data Answer : Type 0 where
   numbers : List ℕ → Answer
-  order : Order → Answer
+  order : Ordering → Answer
   refused : Answer
 
 pub record Example : Type 0 where
@@ -53,8 +52,8 @@ of_bound (Most n) = numbers (n ∷ [])
 of_bound Unbounded = refused
 
 abbrev of_field : Option Field → Answer
-of_field none = refused
-of_field (some f) = numbers (f.value ∷ [])
+of_field None = refused
+of_field (Some f) = numbers (f.value ∷ [])
 
 -- what a good copy says: block, chunk and version, or nothing
 abbrev of_copy : Copy → Answer

@@ -4,9 +4,8 @@
 use Prim.Native.Nat.{ℕ, ◌+◌, ◌-◌, ◌≤◌, ◌<◌}
 use Rattle.std.proofs.Math.Path.{◌≡◌, refl, ap}
 use Rattle.std.proofs.Common.{sym, ◌∙◌, true≢false}
-use Rattle.std.specs.Prelude.{List, Bool, get_or}
+use Rattle.std.specs.Prelude.{List, Bool, get_or, None, Option, Some}
 use Rattle.std.proofs.Math.Bool.{true, false, cond}
-use Rattle.std.proofs.Math.Option.{Option, none, some}
 use native.Mathlib.Omega.{arith}
 use borrow.Author.Tests.{lt-ltb, le-ltb, ltb-true}
 use Rattle.std.proofs.Math.Dec.{ltb}
@@ -92,13 +91,13 @@ module _ (s : List ℕ) (n at k : ℕ) where
       ∙ ap (λ (o : Option ℕ). on_some o 0 (λ a. a)) (up_to_nth (count_at s) n k (at, 0) h)
       ∙ go (after (count_at s) k (at, 0))
     where
-      by : (t : Step ℕ (ℕ × ℕ)) → on_some (on_step t none (λ a d. some a)) 0 (λ a. a) ≡ on_step t 0 (λ a d. a)
+      by : (t : Step ℕ (ℕ × ℕ)) → on_some (on_step t None (λ a d. Some a)) 0 (λ a. a) ≡ on_step t 0 (λ a d. a)
       by (got a d) = refl
       by bad = refl
 
-      go : (o : Option (ℕ × ℕ)) → on_some (on_some o none (item_of (count_at s))) 0 (λ a. a) ≡ on_some o 0 count_of
-      go (some c) = by (count_at s c)
-      go none = refl
+      go : (o : Option (ℕ × ℕ)) → on_some (on_some o None (item_of (count_at s))) 0 (λ a. a) ≡ on_some o 0 count_of
+      go (Some c) = by (count_at s c)
+      go None = refl
 
   pub nth_count_past : n ≤ k → get_or (up_to (count_at s) n (at, 0)) k 0 ≡ 0
   nth_count_past h = get_d_elem (up_to (count_at s) n (at, 0)) k 0 ∙ rw (up_to_past (count_at s) n k (at, 0) h)
@@ -108,8 +107,8 @@ module _ (s : List ℕ) (n at k : ℕ) where
   nth_count_stuck h e = nth_count h ∙ go (after (count_at s) k (at, 0)) e
     where
       go : (o : Option (ℕ × ℕ)) → counted_of o ≡ Stuck → on_some o 0 count_of ≡ 0
-      go (some c) q = absurd (true≢false cc)
-      go none q = refl
+      go (Some c) q = absurd (true≢false cc)
+      go None q = refl
 
   module _ {total i : ℕ} (h : k < n) (e : counted s k at ≡ Sum total i) where
     nth_count_sum : get_or (up_to (count_at s) n (at, 0)) k 0 ≡ on_step (count_at s (i, total)) 0 (λ a d. a)
@@ -117,11 +116,11 @@ module _ (s : List ℕ) (n at k : ℕ) where
     nth_count_sum = nth_count h ∙ go (after (count_at s) k (at, 0)) e
       where
         go : (o : Option (ℕ × ℕ)) → counted_of o ≡ Sum total i → on_some o 0 count_of ≡ count_of (i, total)
-        go (some (j, m)) q =
+        go (Some (j, m)) q =
             let f : j ≡ i = cc in
             let g : m ≡ total = cc in
             rw (f, g)
-        go none q = absurd (true≢false cc)
+        go None q = absurd (true≢false cc)
 
     pub nth_count_bad : var_at count_limit s i ≡ Bad → get_or (up_to (count_at s) n (at, 0)) k 0 ≡ 0
     nth_count_bad b = nth_count_sum ∙ rw (count_bad s i total b)

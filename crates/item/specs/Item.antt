@@ -7,8 +7,7 @@
 --   count_at s        recorded counts as steps of a cursor that has the sum so far
 --   skipped s form n i the place after n items of a form
 --   counted s n i  the sum of n recorded counts, and the place after them
-use Rattle.std.specs.Prelude.{ℕ, ◌+◌, ◌^◌, List, cond, ltb}
-use Rattle.std.proofs.Math.Option.{Option, none, some}
+use Rattle.std.specs.Prelude.{ℕ, ◌+◌, ◌^◌, List, cond, ltb, None, Option, Some}
 use Rattle.numeral.specs.declared.Numeral.{Numeral}
 use Rattle.numeral.specs.declared.Numeral.TheVariants as numeral
 use Rattle.numeral.specs.Var.{var_at}
@@ -61,16 +60,16 @@ count_at s c =
 
 -- ## What the code hands back
 abbrev pub numbered_of : Option Spot → Numbered
-numbered_of (some p) = numbered.At p.at p.len
-numbered_of none = numbered.Out
+numbered_of (Some p) = numbered.At p.at p.len
+numbered_of None = numbered.Out
 
 abbrev pub skip_of : Option ℕ → Skip
-skip_of (some i) = skip.Past i
-skip_of none = skip.Stuck
+skip_of (Some i) = skip.Past i
+skip_of None = skip.Stuck
 
 abbrev pub counted_of : Option (ℕ × ℕ) → Counted
-counted_of (some c) = sums.Sum c.1 c.0
-counted_of none = sums.Stuck
+counted_of (Some c) = sums.Sum c.1 c.0
+counted_of None = sums.Stuck
 
 unfoldable pub skipped : List ℕ → Form → ℕ → ℕ → Skip
 skipped s form n i = skip_of (after (items s form) n i)

@@ -2,15 +2,14 @@
 --
 --   Skipping s f left i answer  the answer of a loop that has `left` items of a form to pass, from place i on
 use Prim.Native.Nat.{ℕ, zero, suc, ◌+◌, ◌*◌, ◌-◌, ◌≤◌, ◌<◌}
-use Rattle.std.specs.Prelude.{◌≡◌, List, Bool}
+use Rattle.std.specs.Prelude.{◌≡◌, List, Bool, None, Option, Some, slice_get}
 use Rattle.std.proofs.Math.Path.{refl, ap}
 use Rattle.std.proofs.Common.{sym, ◌∙◌, true≢false}
-use Rattle.std.proofs.Math.Option.{Option, none, some}
 use Rattle.std.proofs.Math.Bool.{true, false}
 use native.Mathlib.Omega.{arith}
 use borrow.Author.Tests.{le-leb, lt-leb, leb-true, leb-false}
 use Rattle.std.proofs.Math.Dec.{leb}
-use Rattle.std.proofs.Math.ListN.{length, get_elem?}
+use Rattle.std.proofs.Math.ListN.{length}
 use Rattle.key.specs.declared.Kind.TheVariants.{Number, Text}
 use Rattle.key.specs.declared.sized.Sized.{Sized}
 use Rattle.key.specs.declared.sized.Sized.TheVariants.{At, Bad}
@@ -41,8 +40,8 @@ module _ (s : List ℕ) (f : Form) where
   skipped_length n i {next} e = go (after (items s f) n i) refl e
     where
       go : (o : Option ℕ) → after (items s f) n i ≡ o → skip_of o ≡ Past next → length (up_to (items s f) n i) ≡ n
-      go (some d) q h = up_to-length (items s f) n i q
-      go none q h = absurd (true≢false cc)
+      go (Some d) q h = up_to-length (items s f) n i q
+      go None q h = absurd (true≢false cc)
 
 -- ## A loop
 pub record Skipping (s : List ℕ) (f : Form) (left i : ℕ) (answer : Skip) : Type 0 where
@@ -64,29 +63,29 @@ module _ {s : List ℕ} {f : Form} {left i : ℕ} {answer : Skip} (l : Skipping 
 
 -- ## An item by its number
 module _ (s : List ℕ) (f : Form) (n at k : ℕ) (h : k < n) where
-  pub nth_stuck : skipped s f k at ≡ Stuck → get_elem? (up_to (items s f) n at) k ≡ none
+  pub nth_stuck : skipped s f k at ≡ Stuck → slice_get (up_to (items s f) n at) k ≡ None
   unfolding skipped
   nth_stuck e = up_to_nth (items s f) n k at h ∙ go (after (items s f) k at) e
     where
-      go : (o : Option ℕ) → skip_of o ≡ Stuck → on_some o none (item_of (items s f)) ≡ none
-      go (some j) q = absurd (true≢false cc)
-      go none q = refl
+      go : (o : Option ℕ) → skip_of o ≡ Stuck → on_some o None (item_of (items s f)) ≡ None
+      go (Some j) q = absurd (true≢false cc)
+      go None q = refl
 
   module _ {i : ℕ} (e : skipped s f k at ≡ Past i) where
-    nth_past : get_elem? (up_to (items s f) n at) k ≡ item_of (items s f) i
+    nth_past : slice_get (up_to (items s f) n at) k ≡ item_of (items s f) i
     unfolding skipped
     nth_past = up_to_nth (items s f) n k at h ∙ go (after (items s f) k at) e
       where
-        go : (o : Option ℕ) → skip_of o ≡ Past i → on_some o none (item_of (items s f)) ≡ item_of (items s f) i
-        go (some j) q = ap (item_of (items s f)) cc
-        go none q = absurd (true≢false cc)
+        go : (o : Option ℕ) → skip_of o ≡ Past i → on_some o None (item_of (items s f)) ≡ item_of (items s f) i
+        go (Some j) q = ap (item_of (items s f)) cc
+        go None q = absurd (true≢false cc)
 
     pub nth_at : {start len next : ℕ} → item_at s f i ≡ At start len next
-        → get_elem? (up_to (items s f) n at) k ≡ some (record { at = start; len = len })
+        → slice_get (up_to (items s f) n at) k ≡ Some (record { at = start; len = len })
     unfolding item_of
     nth_at q = nth_past ∙ rw (items_at s f i q)
 
-    pub nth_bad : item_at s f i ≡ Bad → get_elem? (up_to (items s f) n at) k ≡ none
+    pub nth_bad : item_at s f i ≡ Bad → slice_get (up_to (items s f) n at) k ≡ None
     unfolding item_of
     nth_bad q = nth_past ∙ rw (items_bad s f i q)
 
@@ -100,18 +99,18 @@ module _ (s : List ℕ) where
   unfolding items item_at key_at
   word_bad i h = rw (lt-leb (i + 8) (length s) h)
 
-  after_words : (n i : ℕ) → i + 8 * n ≤ length s → after (items s form.Word) n i ≡ some (i + 8 * n)
+  after_words : (n i : ℕ) → i + 8 * n ≤ length s → after (items s form.Word) n i ≡ Some (i + 8 * n)
   unfolding after
-  after_words zero i h = ap some (omega arith)
-  after_words (suc n) i h = rw (word_fits i (omega arith)) (after_words n (i + 8) (omega arith) ∙ ap some (omega arith))
+  after_words zero i h = ap Some (omega arith)
+  after_words (suc n) i h = rw (word_fits i (omega arith)) (after_words n (i + 8) (omega arith) ∙ ap Some (omega arith))
 
-  after_words_none : (n i : ℕ) → 0 < n → length s < i + 8 * n → after (items s form.Word) n i ≡ none
+  after_words_none : (n i : ℕ) → 0 < n → length s < i + 8 * n → after (items s form.Word) n i ≡ None
   unfolding after
   after_words_none zero i h k = absurd (omega arith)
   after_words_none (suc n) i h k = go (leb (i + 8) (length s)) refl (after_words_none n (i + 8))
     where
-      go : (t : Bool) → leb (i + 8) (length s) ≡ t → (0 < n → length s < i + 8 + 8 * n → after (items s form.Word) n (i + 8) ≡ none)
-          → after (items s form.Word) (suc n) i ≡ none
+      go : (t : Bool) → leb (i + 8) (length s) ≡ t → (0 < n → length s < i + 8 + 8 * n → after (items s form.Word) n (i + 8) ≡ None)
+          → after (items s form.Word) (suc n) i ≡ None
       go true e ih = let l = leb-true (i + 8) (length s) e in rw (word_fits i l) (ih (omega arith) (omega arith))
       go false e ih = rw (word_bad i (leb-false (i + 8) (length s) e))
 

@@ -3,8 +3,7 @@
 --   Step A C        an item and the next cursor, or an item that can't be read
 --   after read n c  the cursor after n items; none where one of them can't be read
 --   up_to read n c  the n items themselves, up to the first that can't be read
-use Rattle.std.specs.Prelude.{ℕ, zero, suc, List, [], ◌∷◌}
-use Rattle.std.proofs.Math.Option.{Option, none, some}
+use Rattle.std.specs.Prelude.{ℕ, zero, suc, List, [], ◌∷◌, None, Option, Some}
 
 pub data Step (A C : Type 0) : Type 0 where
   got : A → C → Step A C
@@ -16,8 +15,8 @@ on_step bad stop go = stop
 
 module _ {A C : Type 0} (read : C → Step A C) where
   unfoldable pub after : ℕ → C → Option C
-  after zero c = some c
-  after (suc n) c = on_step (read c) none (λ a d. after n d)
+  after zero c = Some c
+  after (suc n) c = on_step (read c) None (λ a d. after n d)
 
   unfoldable pub up_to : ℕ → C → List A
   up_to zero c = []

@@ -2,8 +2,7 @@
 // from a cursor. `s` is the image up to the page's end.
 #![tactic(auto)]
 
-ghost use Rattle.std.specs.Prelude.{◌≡◌, get_or};
-ghost use Rattle.std.proofs.Math.ListN.{get_elem?};
+ghost use Rattle.std.specs.Prelude.{◌≡◌, get_or, slice_get};
 ghost use Rattle.item.specs.Step.{up_to};
 ghost use Rattle.item.specs.Item.{item_at, items, count_at, numbered_of, skipped, counted};
 
@@ -129,7 +128,7 @@ pub fn skip_items(s: &[u8], form: Form, n: u64, at: usize) -> Skip
 
 // Item number `k` of `n`, from 0.
 pub fn nth_item(s: &[u8], form: Form, n: u64, at: usize, k: u64) -> Numbered
-    ensures { result ≡ numbered_of (get_elem? (up_to (items s.now form) n at) k) }
+    ensures { result ≡ numbered_of (slice_get (up_to (items s.now form) n at) k) }
 {
     if n <= k {
         return Numbered::Out;

@@ -11,8 +11,8 @@ use Rattle.std.specs.Int.{w64}
 use Rattle.std.proofs.Common.{to_z}
 use Rattle.text.specs.Text.{every, is_printable}
 use Rattle.numeral.specs.BigEndian.{big_endian_at}
-use Rattle.order.specs.declared.Order.{Order}
-use Rattle.order.specs.declared.Order.TheVariants.{Less, Greater}
+use Rattle.std.specs.declared.cmp.Ordering.{Ordering}
+use Rattle.std.specs.declared.cmp.Ordering.TheVariants.{Less, Greater}
 use Rattle.order.specs.Order.{compare_nat, compare_int, lex}
 use Rattle.key.specs.declared.Kind.{Kind}
 use Rattle.key.specs.declared.Kind.TheVariants.{Number, Text}
@@ -29,11 +29,11 @@ unfoldable pub key_of : Kind → List ℕ → Key
 key_of Number b = number (to_z w64 (big_endian_at 8 b 0))
 key_of Text b = text b
 
-abbrev pub texts_order : List ℕ → List ℕ → Order
+abbrev pub texts_order : List ℕ → List ℕ → Ordering
 texts_order = lex compare_nat
 
 -- no map has keys of both kinds; the comparison is total all the same, numbers first
-unfoldable pub compare_keys : Key → Key → Order
+unfoldable pub compare_keys : Key → Key → Ordering
 compare_keys (number a) (number b) = compare_int a b
 compare_keys (number a) (text b) = Less
 compare_keys (text a) (number b) = Greater

@@ -1,7 +1,7 @@
 -- Keys are strictly and totally ordered, both kinds by one comparison.
 use Rattle.std.specs.Prelude.{ℕ, ◌≡◌, refl, List}
 use Rattle.std.proofs.Common.{ap}
-use Rattle.order.specs.declared.Order.TheVariants.{Less, Equal}
+use Rattle.std.specs.declared.cmp.Ordering.TheVariants.{Less, Equal}
 use Rattle.order.specs.Order.{turned, TotalOrder}
 use Rattle.order.proofs.Instances.{nat_order, int_order, lex_order}
 use Rattle.key.specs.Key.{Key, number, text, texts_order, compare_keys}

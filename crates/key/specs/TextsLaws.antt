@@ -3,25 +3,25 @@ use Prim.Native.Nat.{ℕ, zero, suc, ◌+◌, ◌*◌, ◌-◌, ◌≤◌, ◌<�
 use Rattle.std.specs.Prelude.{◌≡◌, Bool, true, false, cond, List, [], ◌∷◌, ◌++◌, ltb, length, get_or, take, drop}
 use Rattle.std.proofs.Math.Path.{refl}
 use Rattle.std.proofs.Common.{sym, ◌∙◌, zero-add, add-one, arith, lt-ltb, le-ltb, ltb-true, ltb-false, take-append-drop, drop_of_length-le, drop-cons, take-add, take_all, length-take-le}
-use Rattle.order.specs.declared.Order.{Order}
-use Rattle.order.specs.declared.Order.TheVariants.{Less, Equal, Greater}
+use Rattle.std.specs.declared.cmp.Ordering.{Ordering}
+use Rattle.std.specs.declared.cmp.Ordering.TheVariants.{Less, Equal, Greater}
 use Rattle.order.specs.Order.{compare_nat, then}
 use Rattle.numeral.specs.BigEndian.{big_endian, big_endian_at}
 use Rattle.numeral.specs.BigEndianLaws.{big_endian_at_inside}
 use Rattle.key.specs.Key.{texts_order}
 use Rattle.key.specs.Raised.{same_test}
 
-then_equal : (o : Order) → then o Equal ≡ o
+then_equal : (o : Ordering) → then o Equal ≡ o
 then_equal Less = refl
 then_equal Equal = refl
 then_equal Greater = refl
 
-then_first : (o p : Order) → then o p ≡ Equal → o ≡ Equal
+then_first : (o p : Ordering) → then o p ≡ Equal → o ≡ Equal
 then_first Less p e = e
 then_first Equal p e = refl
 then_first Greater p e = e
 
-then_assoc : (o p q : Order) → then (then o p) q ≡ then o (then p q)
+then_assoc : (o p q : Ordering) → then (then o p) q ≡ then o (then p q)
 then_assoc Less p q = refl
 then_assoc Equal p q = refl
 then_assoc Greater p q = refl
@@ -67,7 +67,7 @@ module _ (a b : List ℕ) where
         then_first (texts_order (take j a) (take j b)) (texts_order (take (i - j) (drop j a)) (take (i - j) (drop j b))) (sym t ∙ rw n e)
 
   -- ## The first i bytes differ: no later byte matters
-  module _ (i : ℕ) (h : i ≤ length a) (k : i ≤ length b) (o : Order) (differ : (p : Order) → then o p ≡ o)
+  module _ (i : ℕ) (h : i ≤ length a) (k : i ≤ length b) (o : Ordering) (differ : (p : Ordering) → then o p ≡ o)
       (e : texts_order (take i a) (take i b) ≡ o) where
     pub texts_differ : texts_order a b ≡ o
     texts_differ = texts_split a b i h k ∙ rw e (differ (texts_order (drop i a) (drop i b)))

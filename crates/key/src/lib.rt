@@ -12,7 +12,7 @@ ghost use Rattle.key.specs.Key.{key_at, well_formed, key_of, compare_keys};
 ghost use Rattle.key.specs.Raised.{raised};
 
 use numeral::be64;
-use order::Order;
+use std::cmp::Ordering;
 pub use sized::{Sized, sized_at};
 
 #[derive(Clone, Copy)]
@@ -112,22 +112,22 @@ pub fn signed(bits: u64) -> i64
 }
 
 // Two number keys by their 64 bits.
-pub fn compare_numbers(a: u64, b: u64) -> Order
+pub fn compare_numbers(a: u64, b: u64) -> Ordering
     ensures { result ≡ compare_int (to_z w64 a) (to_z w64 b) }
 {
     let x = raise(a);
     let y = raise(b);
     if x < y {
-        return Order::Less;
+        return Ordering::Less;
     }
     if y < x {
-        return Order::Greater;
+        return Ordering::Greater;
     }
-    Order::Equal
+    Ordering::Equal
 }
 
 // How two keys of a kind, given as their bytes, compare.
-pub fn compare(kind: Kind, a: &[u8], b: &[u8]) -> Order
+pub fn compare(kind: Kind, a: &[u8], b: &[u8]) -> Ordering
     ensures { result ≡ compare_keys (key_of kind a.now) (key_of kind b.now) }
 {
     match kind {

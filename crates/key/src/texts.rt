@@ -3,26 +3,26 @@ ghost use Rattle.std.specs.Prelude.{◌≡◌, ◌+◌, ◌≤◌, min, length, 
 ghost use Rattle.key.specs.Key.{texts_order};
 
 use numeral::be64;
-use order::Order;
+use std::cmp::Ordering;
 
 // Eight bytes, which compare as the number that they are, high byte first.
-fn compare_eight(a: &[u8], b: &[u8]) -> Order
+fn compare_eight(a: &[u8], b: &[u8]) -> Ordering
     requires { (length a.now ≡ 8) × (length b.now ≡ 8) }
     ensures { result ≡ texts_order a.now b.now }
 {
     let p = be64(a, 0);
     let q = be64(b, 0);
     if p == q {
-        return Order::Equal;
+        return Ordering::Equal;
     }
     if p < q {
-        return Order::Less;
+        return Ordering::Less;
     }
-    Order::Greater
+    Ordering::Greater
 }
 
 // The eight bytes at `i`.
-fn compare_at(a: &[u8], b: &[u8], i: usize) -> Order
+fn compare_at(a: &[u8], b: &[u8], i: usize) -> Ordering
     requires { (i + 8 ≤ length a.now) × (i + 8 ≤ length b.now) }
     ensures { result ≡ texts_order (take 8 (drop i a.now)) (take 8 (drop i b.now)) }
 {
@@ -30,7 +30,7 @@ fn compare_at(a: &[u8], b: &[u8], i: usize) -> Order
 }
 
 // The first `n` bytes, one by one.
-fn compare_each(a: &[u8], b: &[u8], n: usize) -> Order
+fn compare_each(a: &[u8], b: &[u8], n: usize) -> Ordering
     requires { (n ≤ length a.now) × (n ≤ length b.now) }
     ensures { result ≡ texts_order (take n a.now) (take n b.now) }
 {
@@ -39,19 +39,19 @@ fn compare_each(a: &[u8], b: &[u8], n: usize) -> Order
         let p = a[i];
         let q = b[i];
         if p < q {
-            return Order::Less;
+            return Ordering::Less;
         }
         if q < p {
-            return Order::Greater;
+            return Ordering::Greater;
         }
         i += 1;
     }
-    Order::Equal
+    Ordering::Equal
 }
 
 // The first `n` bytes, eight at a time, and the last eight of them, some of which may have been found
 // equal before.
-fn compare_words(a: &[u8], b: &[u8], n: usize) -> Order
+fn compare_words(a: &[u8], b: &[u8], n: usize) -> Ordering
     requires { (8 ≤ n) × (n ≤ length a.now) × (n ≤ length b.now) }
     ensures { result ≡ texts_order (take n a.now) (take n b.now) }
 {
@@ -60,16 +60,16 @@ fn compare_words(a: &[u8], b: &[u8], n: usize) -> Order
     while i < last {
         let o = compare_at(a, b, i);
         match o {
-            Order::Less => return Order::Less,
-            Order::Equal => {}
-            Order::Greater => return Order::Greater,
+            Ordering::Less => return Ordering::Less,
+            Ordering::Equal => {}
+            Ordering::Greater => return Ordering::Greater,
         }
         i += 8;
     }
     compare_at(a, b, last)
 }
 
-fn compare_first(a: &[u8], b: &[u8], n: usize) -> Order
+fn compare_first(a: &[u8], b: &[u8], n: usize) -> Ordering
     requires { (n ≤ length a.now) × (n ≤ length b.now) }
     ensures { result ≡ texts_order (take n a.now) (take n b.now) }
 {
@@ -88,21 +88,21 @@ fn shorter(m: usize, n: usize) -> usize
     n
 }
 
-pub fn compare_texts(a: &[u8], b: &[u8]) -> Order
+pub fn compare_texts(a: &[u8], b: &[u8]) -> Ordering
     ensures { result ≡ texts_order a.now b.now }
 {
     let n = shorter(a.len(), b.len());
     let o = compare_first(a, b, n);
     match o {
-        Order::Less => return Order::Less,
-        Order::Equal => {}
-        Order::Greater => return Order::Greater,
+        Ordering::Less => return Ordering::Less,
+        Ordering::Equal => {}
+        Ordering::Greater => return Ordering::Greater,
     }
     if a.len() < b.len() {
-        return Order::Less;
+        return Ordering::Less;
     }
     if b.len() < a.len() {
-        return Order::Greater;
+        return Ordering::Greater;
     }
-    Order::Equal
+    Ordering::Equal
 }

@@ -1,9 +1,8 @@
 -- Laws of lines whose names are distinct: a name that is read has not been given, and comes no more. A line whose names are not
 -- distinct says nothing.
-use Rattle.std.specs.Prelude.{ℕ, ◌+◌, ◌-◌, ◌<◌, ◌≡◌, refl, Bool, not, ◌&&◌, ◌||◌, List, [], ◌∷◌, ltb, length, get_or, take, drop}
+use Rattle.std.specs.Prelude.{ℕ, ◌+◌, ◌-◌, ◌<◌, ◌≡◌, refl, Bool, not, ◌&&◌, ◌||◌, List, [], ◌∷◌, ltb, length, get_or, take, drop, None, Option, Some}
 use Rattle.std.proofs.Common.{sym, ◌∙◌, true≢false, ltb-true, ltb-false}
 use Rattle.std.proofs.Math.Bool.{true, false, cond}
-use Rattle.std.proofs.Math.Option.{Option, none, some}
 use Rattle.text.specs.Text.{within, same, split}
 use Rattle.names.specs.Names.{comma, part_from, parts_after, name_of, named_in, distinct, distinct_names}
 use Rattle.names.specs.Tree.{clear, apart}
@@ -19,18 +18,18 @@ use Rattle.line.specs.FillLaws.{Sized, taken, put_sized, put_unknown, taken_adde
 use Rattle.line.specs.FinishLaws.{named_has, finish_all}
 
 -- ## Fields are distinct exactly where no name occurs twice
-distinct_fields : (ps : List (List ℕ)) (fs : List Field) → all_fields ps ≡ some fs → distinct ps ≡ none_twice fs
+distinct_fields : (ps : List (List ℕ)) (fs : List Field) → all_fields ps ≡ Some fs → distinct ps ≡ none_twice fs
 unfolding all_fields distinct none_twice
 distinct_fields [] fs e = let n : fs ≡ [] = cc in rw n
 distinct_fields (p ∷ ps) fs e = go (field_of p) refl (all_fields ps) refl (distinct_fields ps) e
   where
     go : (o : Option Field) → field_of p ≡ o → (os : Option (List Field)) → all_fields ps ≡ os →
-        ((gs : List Field) → all_fields ps ≡ some gs → distinct ps ≡ none_twice gs) →
-        on_some o none (λ f. on_some os none (λ gs. some (f ∷ gs))) ≡ some fs →
+        ((gs : List Field) → all_fields ps ≡ Some gs → distinct ps ≡ none_twice gs) →
+        on_some o None (λ f. on_some os None (λ gs. Some (f ∷ gs))) ≡ Some fs →
         ((within 1 16 (length (name_of p)) && not (named_in (name_of p) ps)) && distinct ps) ≡ none_twice fs
-    go none q os r ih e = absurd (true≢false cc)
-    go (some f) q none r ih e = absurd (true≢false cc)
-    go (some f) q (some gs) r ih e =
+    go None q os r ih e = absurd (true≢false cc)
+    go (Some f) q None r ih e = absurd (true≢false cc)
+    go (Some f) q (Some gs) r ih e =
         let n : fs ≡ f ∷ gs = cc in
         let named = field_named p f q in
         rw (n, named.right, ← named.letters, named_has f.name ps gs r, ih gs r)
@@ -39,10 +38,10 @@ pub read_indistinct : (line : List ℕ) → distinct_names line ≡ false → re
 unfolding distinct_names read_of fields_of
 read_indistinct line e = go (all_fields (split comma line)) (distinct_fields (split comma line))
   where
-    go : (o : Option (List Field)) → ((fs : List Field) → o ≡ some fs → distinct (split comma line) ≡ none_twice fs) →
-        on_some (on_some o none (λ fs. cond (none_twice fs) (some fs) none)) no_fields listed ≡ no_fields
-    go none f = refl
-    go (some fs) f = let twice : none_twice fs ≡ false = sym (f fs refl) ∙ e in rw twice
+    go : (o : Option (List Field)) → ((fs : List Field) → o ≡ Some fs → distinct (split comma line) ≡ none_twice fs) →
+        on_some (on_some o None (λ fs. cond (none_twice fs) (Some fs) None)) no_fields listed ≡ no_fields
+    go None f = refl
+    go (Some fs) f = let twice : none_twice fs ≡ false = sym (f fs refl) ∙ e in rw twice
 
 -- ## The loop of `read_each`, with the names known to be distinct or not
 pub record ReadUpTo (line : List ℕ) (known-apart : Bool) (acc : Fields) (i : ℕ) : Type 0 where
@@ -60,13 +59,13 @@ read_start line d =
       rest = finish_all line;
     }
 
-module _ (acc : Fields) (q : List ℕ) (ps : List (List ℕ)) (none : taken acc q ≡ false) (once : named_in q ps ≡ false) where
+module _ (acc : Fields) (q : List ℕ) (ps : List (List ℕ)) (None : taken acc q ≡ false) (once : named_in q ps ≡ false) where
   unseen : seen acc (slot_of q) q ps ≡ false
   unfolding seen
   unseen = go (ltb (slot_of q) 11)
     where
       go : (t : Bool) → cond t (get_or acc.given (slot_of q) false) (named_in q ps) ≡ false
-      go true = none
+      go true = None
       go false = once
 
   clear_put : (v : ℕ) → Sized acc → clear (taken acc) ps ≡ true → clear (taken (put acc (slot_of q) v)) ps ≡ true

@@ -1,9 +1,8 @@
 -- Laws of reading one field, one for each branch of `field_at`: a run of letters, a colon, a run of digits, then a comma or the end.
-use Rattle.std.specs.Prelude.{ℕ, suc, ◌+◌, ◌-◌, ◌≤◌, ◌<◌, ◌≡◌, refl, Bool, true, false, cond, ◌&&◌, List, eqb, ltb, get_or, take}
+use Rattle.std.specs.Prelude.{ℕ, suc, ◌+◌, ◌-◌, ◌≤◌, ◌<◌, ◌≡◌, refl, Bool, true, false, cond, ◌&&◌, List, eqb, ltb, get_or, take, None}
 use Rattle.std.proofs.Math.Path.{sym}
 use Rattle.std.proofs.Common.{◌∙◌, ap, true≢false, get_or-take, get_or-drop, drop-drop}
 use Rattle.std.proofs.Math.Bool.{not, and-false}
-use Rattle.std.proofs.Math.Option.{none}
 use native.Mathlib.Omega.{arith}
 use borrow.Author.Tests.{le-leb, lt-leb, eq-eqb, ne_eqb, ltb-true, ltb-false, eqb-true, not-false}
 use Rattle.std.proofs.Math.ListN.{length, drop, length-drop, get_or-eq_default}
@@ -76,7 +75,7 @@ module _ (line : List ℕ) (i colon_at : ℕ) (e : colon_at ≡ i + span is_lett
   part_tested : field_of (part_from line i) ≡
       cond (within 1 16 (colon_at - i) && eqb (get_or line colon_at 0) colon)
       (valued (take (colon_at - i) (part_from line i)) (hex_of (drop (suc (colon_at - i)) (part_from line i))))
-      none
+      None
   unfolding field_of
   part_tested =
       let place : i + (colon_at - i) ≡ colon_at = omega arith in

@@ -1,8 +1,7 @@
 -- Laws of the fields of a line.
-use Rattle.std.specs.Prelude.{ℕ, suc, ◌+◌, ◌-◌, ◌≤◌, ◌<◌, ◌≡◌, refl, Bool, true, false, cond, ◌&&◌, List, eqb, ltb, length, get_or, take, drop}
+use Rattle.std.specs.Prelude.{ℕ, suc, ◌+◌, ◌-◌, ◌≤◌, ◌<◌, ◌≡◌, refl, Bool, true, false, cond, ◌&&◌, List, eqb, ltb, length, get_or, take, drop, None, Option, Some}
 use Rattle.std.proofs.Common.{sym, ◌∙◌, ap, true≢false, arith, ltb-true, ltb-false, eqb-true, length-drop, take-take}
 use Rattle.std.proofs.Math.Bool.{and-eq-true_iff}
-use Rattle.std.proofs.Math.Option.{Option, none, some}
 use Rattle.std.proofs.Math.ListN.{get_or-eq_default}
 use Rattle.text.specs.Text.{span, within, is_not, is_letter}
 use Rattle.text.specs.Laws.{span_le}
@@ -29,14 +28,14 @@ byte_inside p n b e = go (ltb n (length p)) refl
     go true h = ltb-true n (length p) h
     go false h = absurd (omega (arith, eqb-true (get_or p n 0) (suc b) e, get_or-eq_default p 0 {n = n} (ltb-false n (length p) h)))
 
-pub field_named : (p : List ℕ) (f : Field) → field_of p ≡ some f → Named p f
+pub field_named : (p : List ℕ) (f : Field) → field_of p ≡ Some f → Named p f
 unfolding field_of name_of
 field_named p f q = go (within 1 16 n && eqb (get_or p n 0) colon) refl (hex_of (drop (suc n) p)) q
   where
     n : ℕ
     n = span is_letter p
 
-    go : (b : Bool) → (within 1 16 n && eqb (get_or p n 0) colon) ≡ b → (x : Number) → cond b (valued (take n p) x) none ≡ some f → Named p f
+    go : (b : Bool) → (within 1 16 n && eqb (get_or p n 0) colon) ≡ b → (x : Number) → cond b (valued (take n p) x) None ≡ Some f → Named p f
     go true e (Value v) q =
         let f_name : f.name ≡ take n p = cc in
         let size : length f.name ≡ n = ap length f_name ∙ length_name p in
@@ -51,16 +50,16 @@ field_named p f q = go (within 1 16 n && eqb (get_or p n 0) colon) refl (hex_of 
     go false e x q = absurd (true≢false cc)
 
 -- ## The answers of `field_at`
-pub part_bad : (line : List ℕ) (i : ℕ) → part.Bad ≡ part_at line i → field_of (part_from line i) ≡ none
+pub part_bad : (line : List ℕ) (i : ℕ) → part.Bad ≡ part_at line i → field_of (part_from line i) ≡ None
 unfolding part_at
 part_bad line i e = go (field_of (part_from line i)) e
   where
-    go : (o : Option Field) → part.Bad ≡ part_by i (length (part_from line i)) o → o ≡ none
-    go none e = refl
-    go (some f) e = cc
+    go : (o : Option Field) → part.Bad ≡ part_by i (length (part_from line i)) o → o ≡ None
+    go None e = refl
+    go (Some f) e = cc
 
 pub record Placed (line : List ℕ) (i colon value end : ℕ) : Type 0 where
-  pub field : field_of (part_from line i) ≡ some (record { name = take (colon - i) (drop i line); value = value })
+  pub field : field_of (part_from line i) ≡ Some (record { name = take (colon - i) (drop i line); value = value })
   pub after : i ≤ colon
   pub before : colon < end
   pub inside : end ≤ length line
@@ -74,8 +73,8 @@ part_placed {line} {i} {colon} {value} {end} e = go (field_of p) refl e
     p = part_from line i
 
     go : (o : Option Field) → field_of p ≡ o → part.Field colon value end ≡ part_by i (length p) o → Placed line i colon value end
-    go none q e = absurd (true≢false cc)
-    go (some f) q e =
+    go None q e = absurd (true≢false cc)
+    go (Some f) q e =
         let named = field_named p f q in
         let colon_at : colon ≡ i + length f.name = cc in
         let value_is : value ≡ f.value = cc in

@@ -7,8 +7,7 @@
 --   right_sum e line  the last field is a right `fletcher` in the edition e
 --   known             the names that the file's lines are asked for, in the order of their numbers
 --   read_of line      what a line says of each known name; nothing where the line breaks a rule
-use Rattle.std.specs.Prelude.{ℕ, zero, suc, Bool, true, false, cond, not, ◌&&◌, ◌||◌, List, [], ◌∷◌, map, eqb, length, get_or, take, drop, replicate}
-use Rattle.std.proofs.Math.Option.{Option, none, some}
+use Rattle.std.specs.Prelude.{ℕ, zero, suc, Bool, true, false, cond, not, ◌&&◌, ◌||◌, List, [], ◌∷◌, map, eqb, length, get_or, take, drop, replicate, None, Option, Some}
 use Rattle.text.specs.Text.{same, split}
 use Rattle.fletcher.specs.declared.Edition.{Edition}
 use Rattle.fletcher.specs.Fletcher.{fletcher_of}
@@ -17,16 +16,16 @@ use Rattle.names.specs.Names.{comma}
 use Rattle.line.specs.Field.{Field, field_of}
 
 abbrev pub on_some : {A B : Type 0} → Option A → B → (A → B) → B
-on_some none b f = b
-on_some (some a) b f = f a
+on_some None b f = b
+on_some (Some a) b f = f a
 
 unfoldable pub has : List ℕ → List Field → Bool
 has name [] = false
 has name (f ∷ fs) = same name f.name || has name fs
 
 unfoldable pub value_in : List ℕ → List Field → Option ℕ
-value_in name [] = none
-value_in name (f ∷ fs) = cond (same name f.name) (some f.value) (value_in name fs)
+value_in name [] = None
+value_in name (f ∷ fs) = cond (same name f.name) (Some f.value) (value_in name fs)
 
 -- "No name occurs twice."
 unfoldable pub none_twice : List Field → Bool
@@ -35,12 +34,12 @@ none_twice (f ∷ fs) = not (has f.name fs) && none_twice fs
 
 -- every part is a field
 unfoldable pub all_fields : List (List ℕ) → Option (List Field)
-all_fields [] = some []
-all_fields (p ∷ ps) = on_some (field_of p) none (λ f. on_some (all_fields ps) none (λ fs. some (f ∷ fs)))
+all_fields [] = Some []
+all_fields (p ∷ ps) = on_some (field_of p) None (λ f. on_some (all_fields ps) None (λ fs. Some (f ∷ fs)))
 
 -- "A line is one or more fields joined by single commas"
 unfoldable pub fields_of : List ℕ → Option (List Field)
-fields_of line = on_some (all_fields (split comma line)) none (λ fs. cond (none_twice fs) (some fs) none)
+fields_of line = on_some (all_fields (split comma line)) None (λ fs. cond (none_twice fs) (Some fs) None)
 
 -- ## The names of 01's lines
 abbrev pub name_h : List ℕ
@@ -94,8 +93,8 @@ read_of line = on_some (fields_of line) no_fields listed
 -- ## The sum in the last field
 -- the place of the last comma among the first n bytes
 unfoldable pub last_comma : ℕ → List ℕ → Option ℕ
-last_comma zero s = none
-last_comma (suc n) s = cond (eqb (get_or s n 0) comma) (some n) (last_comma n s)
+last_comma zero s = None
+last_comma (suc n) s = cond (eqb (get_or s n 0) comma) (Some n) (last_comma n s)
 
 -- "File headers and footers end with the field `fletcher`. It covers the bytes before the comma in front of it"
 unfoldable pub right_sum : Edition → List ℕ → Bool

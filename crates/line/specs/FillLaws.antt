@@ -3,12 +3,11 @@
 --   added acc f  what is read so far, and the field f
 --   taken acc n  the name n is given already
 --   fill acc fs  what is read so far, and the fields fs
-use Rattle.std.specs.Prelude.{ℕ, zero, suc, ◌≤◌, ◌<◌, ◌≡◌, Bool, not, ◌||◌, eqb, length, set, replicate}
+use Rattle.std.specs.Prelude.{ℕ, zero, suc, ◌≤◌, ◌<◌, ◌≡◌, Bool, not, ◌||◌, eqb, length, set, replicate, Some}
 use Rattle.std.proofs.Math.Path.{refl, sym}
 use Rattle.std.proofs.Common.{◌∙◌, arith, length-set, get_or-set_same, get_or-set_other, ext_get_or}
 use Rattle.std.proofs.Math.Bool.{true, false, cond, or-false, and-eq-true_iff}
 use mathlib.Core.List.{List, [], ◌∷◌}
-use Rattle.std.proofs.Math.Option.{some}
 use borrow.Author.Tests.{le-ltb, ne_eqb, ltb-true, ltb-false, eqb-true, eqb-false, not-true}
 use Rattle.std.proofs.Math.Dec.{ltb}
 use Rattle.std.proofs.Math.ListN.{get_or}
@@ -137,7 +136,7 @@ module _ (k : ℕ) (h : k < 11) where
     where
       go : (b : Bool) → same (get_or known k []) f.name ≡ b →
           on_some (value_in (get_or known k []) fs) (cond (eqb (slot_of f.name) k) f.value (get_or acc.values k 0)) (λ v. v) ≡
-          on_some (cond b (some f.value) (value_in (get_or known k []) fs)) (get_or acc.values k 0) (λ v. v)
+          on_some (cond b (Some f.value) (value_in (get_or known k []) fs)) (get_or acc.values k 0) (λ v. v)
       go true q =
           let once = not-true (has f.name fs) ((and-eq-true_iff (not (has f.name fs)) (none_twice fs)).0 e).0 in
           let alone = absent_value (get_or known k []) fs (rw (same_eq (get_or known k []) f.name q) once) in

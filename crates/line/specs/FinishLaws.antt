@@ -1,9 +1,8 @@
 -- One pass over the parts of a line reads what the line says (`finish_all`).
 use Prim.Native.Nat.{ℕ}
-use Rattle.std.specs.Prelude.{◌≡◌, Bool, true, false, cond, not, ◌&&◌, ◌||◌, List, [], ◌∷◌, ltb, get_or}
+use Rattle.std.specs.Prelude.{◌≡◌, Bool, true, false, cond, not, ◌&&◌, ◌||◌, List, [], ◌∷◌, ltb, get_or, None, Option, Some}
 use Rattle.std.proofs.Math.Path.{refl}
 use Rattle.std.proofs.Common.{◌∙◌, true≢false, arith, ltb-true, ltb-false}
-use Rattle.std.proofs.Math.Option.{Option, none, some}
 use Rattle.std.proofs.Math.ListN.{get_or-eq_default}
 use Rattle.text.specs.Text.{same, split}
 use Rattle.line.specs.declared.read.Fields.{Fields}
@@ -17,17 +16,17 @@ use Rattle.line.specs.FieldLaws.{field_named}
 use Rattle.line.specs.FillLaws.{Sized, added, taken, fill, put_sized, put_unknown, taken_added, none_taken, start_sized, fill_listed}
 
 -- ## The rest of a line as its fields
-pub named_has : (name : List ℕ) (ps : List (List ℕ)) (fs : List Field) → all_fields ps ≡ some fs → named_in name ps ≡ has name fs
+pub named_has : (name : List ℕ) (ps : List (List ℕ)) (fs : List Field) → all_fields ps ≡ Some fs → named_in name ps ≡ has name fs
 unfolding named_in all_fields has
 named_has name [] fs e = let n : fs ≡ [] = cc in rw n
 named_has name (p ∷ ps) fs e = go (field_of p) refl (all_fields ps) (named_has name ps) e
   where
-    go : (o : Option Field) → field_of p ≡ o → (os : Option (List Field)) → ((gs : List Field) → os ≡ some gs → named_in name ps ≡ has name gs) →
-        on_some o none (λ f. on_some os none (λ gs. some (f ∷ gs))) ≡ some fs →
+    go : (o : Option Field) → field_of p ≡ o → (os : Option (List Field)) → ((gs : List Field) → os ≡ Some gs → named_in name ps ≡ has name gs) →
+        on_some o None (λ f. on_some os None (λ gs. Some (f ∷ gs))) ≡ Some fs →
         (same name (name_of p) || named_in name ps) ≡ has name fs
-    go none q os ih e = absurd (true≢false cc)
-    go (some f) q none ih e = absurd (true≢false cc)
-    go (some f) q (some gs) ih e =
+    go None q os ih e = absurd (true≢false cc)
+    go (Some f) q None ih e = absurd (true≢false cc)
+    go (Some f) q (Some gs) ih e =
         let n : fs ≡ f ∷ gs = cc in rw (n, ih gs refl, (field_named p f q).letters)
 
 -- a known name is given already, or it comes again; the others are clear of what is given
@@ -49,7 +48,7 @@ both_ways true x = refl
 both_ways false x = refl
 
 -- what is read of a first field and of the fields fs after it
-module _ (acc : Fields) (f : Field) (fs : List Field) (ps : List (List ℕ)) (z : Sized acc) (e : all_fields ps ≡ some fs) where
+module _ (acc : Fields) (f : Field) (fs : List Field) (ps : List (List ℕ)) (z : Sized acc) (e : all_fields ps ≡ Some fs) where
   finish_first : cond (seen acc (slot_of f.name) f.name ps) no_fields
       (cond (clear (taken (added acc f)) ps && none_twice fs) (fill (added acc f) fs) no_fields) ≡
       cond ((not (taken acc f.name) && clear (taken acc) ps) && (not (has f.name fs) && none_twice fs)) (fill (added acc f) fs) no_fields
@@ -95,15 +94,15 @@ finish_fields (p ∷ ps) acc z = go (field_of p) refl (λ f. finish_fields ps (a
     go : (o : Option Field) → field_of p ≡ o →
         ((f : Field) → finish (added acc f) ps ≡ after (added acc f) (clear (taken (added acc f)) ps) (all_fields ps)) →
         on_some o no_fields (λ f. cond (seen acc (slot_of f.name) f.name ps) no_fields (finish (added acc f) ps)) ≡
-        after acc (not (taken acc (name_of p)) && clear (taken acc) ps) (on_some o none (λ f. on_some (all_fields ps) none (λ fs. some (f ∷ fs))))
-    go none q ih = refl
-    go (some f) q ih = rw (ih f, ← (field_named p f q).letters) (rest (all_fields ps) refl)
+        after acc (not (taken acc (name_of p)) && clear (taken acc) ps) (on_some o None (λ f. on_some (all_fields ps) None (λ fs. Some (f ∷ fs))))
+    go None q ih = refl
+    go (Some f) q ih = rw (ih f, ← (field_named p f q).letters) (rest (all_fields ps) refl)
       where
         rest : (os : Option (List Field)) → all_fields ps ≡ os →
             cond (seen acc (slot_of f.name) f.name ps) no_fields (after (added acc f) (clear (taken (added acc f)) ps) os) ≡
-            after acc (not (taken acc f.name) && clear (taken acc) ps) (on_some os none (λ fs. some (f ∷ fs)))
-        rest none e = both_ways (seen acc (slot_of f.name) f.name ps) no_fields
-        rest (some fs) e = finish_first acc f fs ps z e
+            after acc (not (taken acc f.name) && clear (taken acc) ps) (on_some os None (λ fs. Some (f ∷ fs)))
+        rest None e = both_ways (seen acc (slot_of f.name) f.name ps) no_fields
+        rest (Some fs) e = finish_first acc f fs ps z e
 
 pub finish_all : (line : List ℕ) → finish nothing_yet (split comma line) ≡ read_of line
 unfolding read_of fields_of
@@ -112,10 +111,10 @@ finish_all line =
     rw (clear_none (taken nothing_yet) none_taken (split comma line)) (go (all_fields (split comma line)))
   where
     go : (o : Option (List Field)) → on_some o no_fields (λ fs. cond (none_twice fs) (fill nothing_yet fs) no_fields) ≡
-        on_some (on_some o none (λ fs. cond (none_twice fs) (some fs) none)) no_fields listed
-    go none = refl
-    go (some fs) = once (none_twice fs) refl
+        on_some (on_some o None (λ fs. cond (none_twice fs) (Some fs) None)) no_fields listed
+    go None = refl
+    go (Some fs) = once (none_twice fs) refl
       where
-        once : (t : Bool) → none_twice fs ≡ t → cond t (fill nothing_yet fs) no_fields ≡ on_some (cond t (some fs) none) no_fields listed
+        once : (t : Bool) → none_twice fs ≡ t → cond t (fill nothing_yet fs) no_fields ≡ on_some (cond t (Some fs) None) no_fields listed
         once true e = fill_listed fs e
         once false e = refl

@@ -1,9 +1,8 @@
 -- Laws of the sum in the last field, one for each branch of the code.
 use Prim.Native.Nat.{ℕ, suc, ◌+◌, ◌-◌, ◌≤◌, ◌<◌}
-use Rattle.std.specs.Prelude.{◌≡◌, true, false, not, List, eqb, length, get_or, take, drop}
+use Rattle.std.specs.Prelude.{◌≡◌, true, false, not, List, eqb, length, get_or, take, drop, Some}
 use Rattle.std.proofs.Common.{sym, ◌∙◌, eq-eqb, ne_eqb, eqb-true}
 use Rattle.std.proofs.Math.Path.{ap}
-use Rattle.std.proofs.Math.Option.{some}
 use Rattle.std.proofs.Math.Numerals.{add-one}
 use native.Mathlib.Omega.{arith}
 use Rattle.std.proofs.Math.Seq.{take-length}
@@ -20,7 +19,7 @@ use Rattle.line.specs.FieldLaws.{Placed, part_bad}
 
 -- ## The last comma, looked for from the end
 module _ (line : List ℕ) (n : ℕ) where
-  pub last_here : 0 < n → get_or line (n - 1) 0 ≡ comma → last_comma n line ≡ some (n - 1)
+  pub last_here : 0 < n → get_or line (n - 1) 0 ≡ comma → last_comma n line ≡ Some (n - 1)
   unfolding last_comma
   last_here h e = let k : n ≡ suc (n - 1) = omega arith in ap (λ (m : ℕ). last_comma m line) k ∙ rw (eq-eqb (get_or line (n - 1) 0) comma e)
 
@@ -35,7 +34,7 @@ module _ (line : List ℕ) (n : ℕ) where
       let k : n - 1 + 1 ≡ n = omega arith in
       every_on (is_not comma) line (n - 1) (omega arith) (ap not (ne_eqb (get_or line (n - 1) 0) comma f)) ∙ rw k e
 
-  pub right_at : (edition : Edition) → last_comma (length line) line ≡ some n → right_sum edition line ≡ ends_right edition line n
+  pub right_at : (edition : Edition) → last_comma (length line) line ≡ Some n → right_sum edition line ≡ ends_right edition line n
   unfolding right_sum ends_right
   right_at edition e = rw e
 

@@ -1,10 +1,10 @@
 -- Answers that take a number of questions: `gate n r o` is refusal 6 where r is below n, and o elsewhere.
 --
 --   gate-X, gated-X  one number of questions; every number of questions
-use Rattle.std.specs.Prelude.{ℕ, suc, ◌<◌, ◌≤◌, max, ◌≡◌, refl, Bool, true, false, ltb}
+use Rattle.std.specs.Prelude.{ℕ, suc, ◌<◌, ◌≤◌, max, ◌≡◌, refl, Bool, true, false, ltb, Err}
 use Rattle.std.proofs.Common.{sym, ◌∙◌, ap, arith, ltb-true, ltb-false, lt-ltb, le-ltb}
 use Rattle.std.proofs.Math.Dec.{leb-suc-suc}
-use Rattle.refusal.specs.Refusal.{Outcome, refuse, ninth_question}
+use Rattle.refusal.specs.Refusal.{Outcome, ninth_question}
 use Rattle.tree.specs.Page.{branch}
 use Rattle.locating.specs.Locating.{gate}
 use Rattle.locating.specs.Known.{Gated}
@@ -14,7 +14,7 @@ module _ {A : Type 0} (n r : ℕ) (o : Outcome A) where
   unfolding gate
   gate_open h = rw (le-ltb r n h)
 
-  pub gate_shut : r < n → gate n r o ≡ refuse ninth_question
+  pub gate_shut : r < n → gate n r o ≡ Err ninth_question
   unfolding gate
   gate_shut h = rw (lt-ltb r n h)
 
@@ -39,12 +39,12 @@ gate_max n k r o = go (ltb r n) refl (ltb r k) refl
             gate_open k r o (ltb-false r k f) ∙ sym (gate_open (max n k) r o h)
 
 -- what hands refusal 6 up unchanged goes through
-gate_through : {A B : Type 0} (f : Outcome A → Outcome B) → f (refuse ninth_question) ≡ refuse ninth_question
+gate_through : {A B : Type 0} (f : Outcome A → Outcome B) → f (Err ninth_question) ≡ Err ninth_question
     → (n r : ℕ) (o : Outcome A) → f (gate n r o) ≡ gate n r (f o)
 unfolding gate
 gate_through f h n r o = go (ltb r n)
   where
-    go : (t : Bool) → f (branch t (refuse ninth_question) o) ≡ branch t (refuse ninth_question) (f o)
+    go : (t : Bool) → f (branch t (Err ninth_question) o) ≡ branch t (Err ninth_question) (f o)
     go true = h
     go false = refl
 
@@ -52,7 +52,7 @@ module _ {A : Type 0} {n : ℕ} {f g : ℕ → Outcome A} (e : Gated n f g) wher
   pub gated_open : (q : ℕ) → n ≤ q → f q ≡ g q
   gated_open q h = e.with q ∙ gate_open n q (g q) h
 
-  pub gated_shut : (q : ℕ) → q < n → f q ≡ refuse ninth_question
+  pub gated_shut : (q : ℕ) → q < n → f q ≡ Err ninth_question
   gated_shut q h = e.with q ∙ gate_shut n q (g q) h
 
   pub gated_then : {k : ℕ} {h : ℕ → Outcome A} → Gated k g h → Gated (max n k) f h
@@ -61,7 +61,7 @@ module _ {A : Type 0} {n : ℕ} {f g : ℕ → Outcome A} (e : Gated n f g) wher
   pub gated_same : {h : ℕ → Outcome A} → ((r : ℕ) → g r ≡ h r) → Gated n f h
   gated_same d = record { with = λ r. e.with r ∙ ap (gate n r) (d r) }
 
-  pub gated_through : {B : Type 0} (t : ℕ → Outcome A → Outcome B) → ((r : ℕ) → t r (refuse ninth_question) ≡ refuse ninth_question)
+  pub gated_through : {B : Type 0} (t : ℕ → Outcome A → Outcome B) → ((r : ℕ) → t r (Err ninth_question) ≡ Err ninth_question)
       → Gated n (λ r. t r (f r)) (λ r. t r (g r))
   gated_through t h = record { with = λ r. ap (t r) (e.with r) ∙ gate_through (t r) (h r) n r (g r) }
 

@@ -9,9 +9,8 @@
 --   asked_in m page_in root k r  the map's answer for the key k, with r questions
 --   asked_below .. k levels p r  the same from the page at p down, with so many levels left
 --   CameTo .. k n levels p       the descent for k has come to p, and the pages so far take n questions
-use Rattle.std.specs.Prelude.{ℕ, ◌≡◌}
-use Rattle.std.proofs.Math.Option.{Option}
-use Rattle.refusal.specs.Refusal.{Outcome, ok}
+use Rattle.std.specs.Prelude.{ℕ, ◌≡◌, Ok, Option}
+use Rattle.refusal.specs.Refusal.{Outcome}
 use Rattle.tree.specs.Page.{Page}
 use Rattle.tree.specs.Asking.{lookup, map_lookup}
 use Rattle.locating.specs.Locating.{Metadata, read_at, located, gate}
@@ -20,7 +19,7 @@ pub record Gated {A : Type 0} (n : ℕ) (f g : ℕ → Outcome A) : Type 0 where
   pub with : (r : ℕ) → f r ≡ gate n r (g r)
 
 abbrev pub Known : {K W L : Type 0} → Metadata K W L → ℕ → L → ℕ → Type 0
-Known m c l n = Gated n (λ r. located m r c) (λ r. ok l)
+Known m c l n = Gated n (λ r. located m r c) (λ r. Ok l)
 
 -- ## A map
 module _ {K W L : Type 0} (m : Metadata K W L) (page_in : L → ℕ → Outcome (Page K W)) where

@@ -9,20 +9,19 @@
 --   located m q c             where chunk c is, with q questions that may still be opened
 --   asked m k q               the metadata's answer for the key k, with q questions that may still be opened
 --   gate n r o                the answer o that takes n questions, asked with r of them
-use Rattle.std.specs.Prelude.{ℕ, zero, suc, eqb, ltb}
-use Rattle.std.proofs.Math.Option.{Option, none, some}
-use Rattle.refusal.specs.Refusal.{Outcome, ok, refuse, bind, not_located, ninth_question, out_of_place}
-use Rattle.order.specs.declared.Order.{Order}
+use Rattle.std.specs.Prelude.{ℕ, zero, suc, eqb, ltb, Err, None, Ok, Option, Some}
+use Rattle.refusal.specs.Refusal.{Outcome, bind, not_located, ninth_question, out_of_place}
+use Rattle.std.specs.declared.cmp.Ordering.{Ordering}
 use Rattle.tree.specs.Page.{branch, Page}
 use Rattle.tree.specs.Asking.{map_lookup}
 
 -- "A page judges in this order: [..] child position 0, location, place, [..]"
 abbrev pub read_at : {L P : Type 0} → (ℕ → ℕ) → (ℕ → Outcome L) → (L → ℕ → Outcome P) → ℕ → Outcome P
-read_at chunk loc page p = branch (eqb p 0) (refuse out_of_place) (bind (loc (chunk p)) (λ l. page l p))
+read_at chunk loc page p = branch (eqb p 0) (Err out_of_place) (bind (loc (chunk p)) (λ l. page l p))
 
 -- keys K, places of values W, places of chunks L
 pub record Metadata (K W L : Type 0) : Type 1 where
-  pub compare : K → K → Order
+  pub compare : K → K → Ordering
   pub newest : ℕ
   pub newest_at : L
   pub root : ℕ
@@ -38,20 +37,20 @@ pub record Metadata (K W L : Type 0) : Type 1 where
 module _ {K W L : Type 0} (m : Metadata K W L) where
   -- "5: no entry, unusable entry, or chunk not standing there"
   abbrev pub placed : ℕ → Outcome (Option W) → Outcome L
-  placed c (refuse r) = refuse r
-  placed c (ok none) = refuse not_located
-  placed c (ok (some w)) = m.standing c w
+  placed c (Err r) = Err r
+  placed c (Ok None) = Err not_located
+  placed c (Ok (Some w)) = m.standing c w
 
   abbrev pub page_by : (ℕ → Outcome L) → ℕ → Outcome (Page K W)
   page_by loc p = read_at m.chunk_of loc m.page_in p
 
   unfoldable pub located : ℕ → ℕ → Outcome L
-  located zero c = branch (eqb c m.newest) (ok m.newest_at) (refuse ninth_question)
+  located zero c = branch (eqb c m.newest) (Ok m.newest_at) (Err ninth_question)
   located (suc q) c =
-      branch (eqb c m.newest) (ok m.newest_at) (placed c (map_lookup m.compare (page_by (located q)) (m.key_of c) m.root))
+      branch (eqb c m.newest) (Ok m.newest_at) (placed c (map_lookup m.compare (page_by (located q)) (m.key_of c) m.root))
 
   abbrev pub asked : K → ℕ → Outcome (Option W)
   asked k q = map_lookup m.compare (page_by (located q)) k m.root
 
 unfoldable pub gate : {A : Type 0} → ℕ → ℕ → Outcome A → Outcome A
-gate n r o = branch (ltb r n) (refuse ninth_question) o
+gate n r o = branch (ltb r n) (Err ninth_question) o

@@ -4,17 +4,16 @@
 --   asking-X                                     arguments, then opening, then the map
 --   lookup-X, index-X, count-X, named-X, copy-X  the calls
 use Prim.Native.Nat.{ℕ, zero, suc, ◌+◌, ◌≤◌, ◌<◌}
-use Rattle.std.specs.Prelude.{◌≡◌, true, false, List, ◌++◌, leb, ltb, ℤ, length, get_or, take, drop, set}
+use Rattle.std.specs.Prelude.{◌≡◌, true, false, List, ◌++◌, leb, ltb, ℤ, length, get_or, take, drop, set, Err, None, Ok, Option, Some}
 use Rattle.std.proofs.Math.Path.{refl, ap}
 use Rattle.std.proofs.Common.{sym, ◌∙◌, subst, true≢false, add-one, arith, take-suc, drop-cons, length-take-le, to_z}
 use Rattle.std.proofs.Math.Bool.{and-eq-true_iff}
-use Rattle.std.proofs.Math.Option.{Option, none, some}
 use Rattle.std.proofs.lemmas.List.{set_at}
 use Rattle.std.proofs.Math.Seq.{append_snoc}
 use Rattle.std.specs.Int.{w64}
 use borrow.Author.Tests.{le-ltb, le-leb, lt-leb, leb-true}
 use Rattle.refusal.specs.declared.Refusal.{Refusal}
-use Rattle.refusal.specs.Refusal.{Outcome, ok, refuse, bind, bad_argument, area_too_small}
+use Rattle.refusal.specs.Refusal.{Outcome, bind, bad_argument, area_too_small}
 use Rattle.numeral.specs.BigEndian.{big_endian_at}
 use Rattle.tree.proofs.OutcomeLaws.{refuse_ok}
 use Rattle.text.specs.Text.{within, every, is_printable}
@@ -39,61 +38,61 @@ use Rattle.map.specs.Map.{asked_said, item_of, item_at, item_by, area_after}
 
 -- ## An id and a kind
 module _ (map : ℕ) where
-  pub asked_kind : (kind : ℕ) → 1 < kind → asked_map map kind ≡ refuse bad_argument
+  pub asked_kind : (kind : ℕ) → 1 < kind → asked_map map kind ≡ Err bad_argument
   unfolding asked_map
   asked_kind zero h = absurd (omega arith)
   asked_kind (suc zero) h = absurd (omega arith)
   asked_kind (suc (suc n)) h = refl
 
-  pub asked_large : (kind : ℕ) → kind ≤ 1 → 0x7fffffff < map → asked_map map kind ≡ refuse bad_argument
+  pub asked_large : (kind : ℕ) → kind ≤ 1 → 0x7fffffff < map → asked_map map kind ≡ Err bad_argument
   unfolding asked_map
   asked_large zero h l = rw (le-leb 1 map (omega arith), lt-leb map 0x7fffffff l)
   asked_large (suc zero) h l = rw (lt-leb map 0x7fffffff l)
   asked_large (suc (suc n)) h l = absurd (omega arith)
 
-  pub asked_text : {kind : ℕ} → kind ≡ 1 → map ≤ 0x7fffffff → asked_map map kind ≡ ok (map, Text)
+  pub asked_text : {kind : ℕ} → kind ≡ 1 → map ≤ 0x7fffffff → asked_map map kind ≡ Ok (map, Text)
   unfolding asked_map
   asked_text e h = rw (e, le-leb map 0x7fffffff h)
 
-  pub asked_metadata : {kind : ℕ} → kind ≡ 0 → map ≡ 0 → asked_map map kind ≡ refuse bad_argument
+  pub asked_metadata : {kind : ℕ} → kind ≡ 0 → map ≡ 0 → asked_map map kind ≡ Err bad_argument
   unfolding asked_map
   asked_metadata e i = rw (e, i)
 
-  pub asked_number : {kind : ℕ} → kind ≡ 0 → ¬ (map ≡ 0) → map ≤ 0x7fffffff → asked_map map kind ≡ ok (map, Number)
+  pub asked_number : {kind : ℕ} → kind ≡ 0 → ¬ (map ≡ 0) → map ≤ 0x7fffffff → asked_map map kind ≡ Ok (map, Number)
   unfolding asked_map
   asked_number e other h = rw (e, le-leb 1 map (omega arith), le-leb map 0x7fffffff h)
 
 -- ## Arguments, then opening, then the map
 module _ {A : Type 0} {o : Outcome (ℕ × Kind)} (image : List ℕ) (view : View) (ask : Store → ℕ → Kind → Outcome A) where
-  pub asking_bad : {r : Refusal} → o ≡ refuse r → asking o image view ask ≡ refuse r
+  pub asking_bad : {r : Refusal} → o ≡ Err r → asking o image view ask ≡ Err r
   unfolding asking
   asking_bad e = rw e
 
-  module _ {x : ℕ × Kind} (e : o ≡ ok x) where
-    pub asking_shut : {r : Refusal} → opened_store image view ≡ refuse r → asking o image view ask ≡ refuse r
+  module _ {x : ℕ × Kind} (e : o ≡ Ok x) where
+    pub asking_shut : {r : Refusal} → opened_store image view ≡ Err r → asking o image view ask ≡ Err r
     unfolding asking
     asking_shut f = rw (e, f)
 
-    pub asking_open : {s : Store} → opened_store image view ≡ ok s → asking o image view ask ≡ ask s x.0 x.1
+    pub asking_open : {s : Store} → opened_store image view ≡ Ok s → asking o image view ask ≡ ask s x.0 x.1
     unfolding asking
     asking_open f = rw (e, f)
 
 -- ## Keys
 module _ (key : List ℕ) (id : ℕ) (kind : Kind) where
-  pub keyed_bad : well_formed kind key ≡ false → keyed key (id, kind) ≡ refuse bad_argument
+  pub keyed_bad : well_formed kind key ≡ false → keyed key (id, kind) ≡ Err bad_argument
   unfolding keyed
   keyed_bad e = rw e
 
-  pub keyed_well : well_formed kind key ≡ true → keyed key (id, kind) ≡ ok (id, kind)
+  pub keyed_well : well_formed kind key ≡ true → keyed key (id, kind) ≡ Ok (id, kind)
   unfolding keyed
   keyed_well e = rw e
 
 module _ (image : List ℕ) (view : View) (map kind : ℕ) (key : List ℕ) where
-  pub lookup_bad : {r : Refusal} → asked_map map kind ≡ refuse r → lookup_of image view map kind key ≡ refuse r
+  pub lookup_bad : {r : Refusal} → asked_map map kind ≡ Err r → lookup_of image view map kind key ≡ Err r
   unfolding lookup_of
   lookup_bad e = asking_bad image view _ (rw e)
 
-  pub lookup_asked : {id : ℕ} {k : Kind} → asked_map map kind ≡ ok (id, k)
+  pub lookup_asked : {id : ℕ} {k : Kind} → asked_map map kind ≡ Ok (id, k)
       → asking (keyed key (id, k)) image view (λ s i l. lookup_in image s i l (key_of l key)) ≡ lookup_of image view map kind key
   unfolding lookup_of
   lookup_asked e = rw e
@@ -121,29 +120,29 @@ module _ (name : List ℕ) where
       le-ltb 1000 (length name) (leb-true (length name) 1000 few)
 
   module _ (image : List ℕ) (view : View) where
-    pub named_bad : well_named name ≡ false → named_of image view name ≡ refuse bad_argument
+    pub named_bad : well_named name ≡ false → named_of image view name ≡ Err bad_argument
     unfolding named_of
     named_bad e = rw e
 
     module _ (well : well_named name ≡ true) where
-      pub named_shut : {r : Refusal} → opened_store image view ≡ refuse r → named_of image view name ≡ refuse r
+      pub named_shut : {r : Refusal} → opened_store image view ≡ Err r → named_of image view name ≡ Err r
       unfolding named_of
       named_shut f = rw (well, f)
 
-      pub named_open : {s : Store} → opened_store image view ≡ ok s → named_map image s name ≡ named_of image view name
+      pub named_open : {s : Store} → opened_store image view ≡ Ok s → named_map image s name ≡ named_of image view name
       unfolding named_of named_map
       named_open f = rw (named_room well, well, f)
 
 -- ## By what `asked` said
 module _ (map kind : ℕ) (t : Target) (e : asked_said t ≡ asked_map map kind) where
-  pub asked_refused : {r : Refusal} → t ≡ target.Refused r → asked_map map kind ≡ refuse r
+  pub asked_refused : {r : Refusal} → t ≡ target.Refused r → asked_map map kind ≡ Err r
   asked_refused f = sym e ∙ ap asked_said f
 
-  pub asked_told : {id : ℕ} {k : Kind} → t ≡ target.Map id k → asked_map map kind ≡ ok (id, k)
+  pub asked_told : {id : ℕ} {k : Kind} → t ≡ target.Map id k → asked_map map kind ≡ Ok (id, k)
   asked_told f = sym e ∙ ap asked_said f
 
-pub asking_told : {A : Type 0} (image : List ℕ) (view : View) (ask : Store → ℕ → Kind → Outcome A) {o : Outcome (ℕ × Kind)} {x : ℕ × Kind} → o ≡ ok x
-    → asking (ok x) image view ask ≡ asking o image view ask
+pub asking_told : {A : Type 0} (image : List ℕ) (view : View) (ask : Store → ℕ → Kind → Outcome A) {o : Outcome (ℕ × Kind)} {x : ℕ × Kind} → o ≡ Ok x
+    → asking (Ok x) image view ask ≡ asking o image view ask
 asking_told image view ask e = ap (λ o. asking o image view ask) (sym e)
 
 -- ## Entries
@@ -166,8 +165,8 @@ unfolding item_by item_of item_at fetched_of key_in
 item_fetched image store map kind i = go (index_in image store map kind i) refl
   where
     go : (o : Outcome (Key × Entry)) → index_in image store map kind i ≡ o → item_by image kind (fetched_of o) ≡ item_of o
-    go (refuse r) e = refl
-    go (ok (k, x)) e = rw (index_key image store map kind i k x e)
+    go (Err r) e = refl
+    go (Ok (k, x)) e = rw (index_key image store map kind i k x e)
 
 -- ## Copy
 -- one byte more at the start of an area
@@ -180,20 +179,20 @@ put_more area s i h k =
 
 -- a value that was looked up lies inside the image
 asking_inside : (image : List ℕ) (view : View) (o : Outcome (ℕ × Kind)) (k : Kind → Key) (e : Entry)
-    → asking o image view (λ s i l. lookup_in image s i l (k l)) ≡ ok (some e) → e.value.at + e.value.len ≤ length image
+    → asking o image view (λ s i l. lookup_in image s i l (k l)) ≡ Ok (Some e) → e.value.at + e.value.len ≤ length image
 unfolding asking
-asking_inside image view (refuse r) k e h = refuse_ok r (some e) h
-asking_inside image view (ok x) k e h = go (opened_store image view) h
+asking_inside image view (Err r) k e h = refuse_ok r (Some e) h
+asking_inside image view (Ok x) k e h = go (opened_store image view) h
   where
-    go : (o : Outcome Store) → bind o (λ s. lookup_in image s x.0 x.1 (k x.1)) ≡ ok (some e)
+    go : (o : Outcome Store) → bind o (λ s. lookup_in image s x.0 x.1 (k x.1)) ≡ Ok (Some e)
         → e.value.at + e.value.len ≤ length image
-    go (refuse r) h = refuse_ok r (some e) h
-    go (ok s) h = lookup_inside image s x.0 x.1 (k x.1) e h
+    go (Err r) h = refuse_ok r (Some e) h
+    go (Ok s) h = lookup_inside image s x.0 x.1 (k x.1) e h
 
 -- the entry of a value that is given by its place
 pub record Looked (o : Outcome (Option Entry)) (at len : ℕ) : Type 0 where
   pub entry : Entry
-  pub found : o ≡ ok (some entry)
+  pub found : o ≡ Ok (Some entry)
   pub place : entry.value ≡ record { at = at; len = len }
 
 abbrev place_of : Value → Spot
@@ -203,9 +202,9 @@ place_of (value.Refused r) = record { at = 0; len = 0 }
 
 looked : (o : Outcome (Option Entry)) {at len : ℕ} → value_of o ≡ value.At at len → Looked o at len
 unfolding value_of
-looked (refuse r) v = absurd (true≢false cc)
-looked (ok none) v = absurd (true≢false cc)
-looked (ok (some e)) v = record { entry = e; found = refl; place = ap place_of v }
+looked (Err r) v = absurd (true≢false cc)
+looked (Ok None) v = absurd (true≢false cc)
+looked (Ok (Some e)) v = record { entry = e; found = refl; place = ap place_of v }
 
 module _ (image : List ℕ) (view : View) (map kind : ℕ) (key : List ℕ) (room : ℕ) where
   module _ {v : Value} (e : v ≡ value_of (lookup_of image view map kind key)) {at len : ℕ} (f : v ≡ value.At at len) where
@@ -221,7 +220,7 @@ module _ (image : List ℕ) (view : View) (map kind : ℕ) (key : List ℕ) (roo
         omega (arith, a, l, asking_inside image view (bind (asked_map map kind) (keyed key)) (λ k. key_of k key) x found.found)
 
     module _ (small : room < len) where
-      copy_small : copy_of image view map kind key room ≡ refuse area_too_small
+      copy_small : copy_of image view map kind key room ≡ Err area_too_small
       unfolding copy_of
       copy_small = rw (found.found, found.place, lt-leb len room small)
 
@@ -234,7 +233,7 @@ module _ (image : List ℕ) (view : View) (map kind : ℕ) (key : List ℕ) (roo
       copy_refused area = rw copy_small
 
     module _ (fits : len ≤ room) where
-      copy_fits : copy_of image view map kind key room ≡ ok (some found.entry)
+      copy_fits : copy_of image view map kind key room ≡ Ok (Some found.entry)
       unfolding copy_of
       copy_fits = rw (found.found, found.place, le-leb len room fits)
 
@@ -254,9 +253,9 @@ module _ (image : List ℕ) (view : View) (map kind : ℕ) (key : List ℕ) (roo
 
   copy_same : (o : Outcome (Option Entry)) → NoValue (value_of o) → bind o (fitting room) ≡ o
   unfolding value_of
-  copy_same (refuse r) n = refl
-  copy_same (ok none) n = refl
-  copy_same (ok (some e)) n = absurd n
+  copy_same (Err r) n = refl
+  copy_same (Ok None) n = refl
+  copy_same (Ok (Some e)) n = absurd n
 
   module _ {v w : Value} (e : v ≡ value_of (lookup_of image view map kind key)) (f : v ≡ w) (n : NoValue w) where
     copy_lookup : copy_of image view map kind key room ≡ lookup_of image view map kind key
@@ -271,6 +270,6 @@ module _ (image : List ℕ) (view : View) (map kind : ℕ) (key : List ℕ) (roo
     copy_kept area = go (lookup_of image view map kind key) (subst NoValue (sym f ∙ e) n) ∙ ap (λ o. area_after image o area) (sym copy_lookup)
       where
         go : (o : Outcome (Option Entry)) → NoValue (value_of o) → area ≡ area_after image o area
-        go (refuse r) m = refl
-        go (ok none) m = refl
-        go (ok (some x)) m = absurd m
+        go (Err r) m = refl
+        go (Ok None) m = refl
+        go (Ok (Some x)) m = absurd m

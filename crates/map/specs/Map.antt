@@ -6,9 +6,8 @@
 --   lookup_of, index_of, count_of, copy_of, named_of  the calls
 --   item_of                                           an entry as index gives it; item_at, item_by: by the places of its key and value
 --   area_after image o area                           what the lent area holds after a copy with the outcome o
-use Rattle.std.specs.Prelude.{ℕ, zero, suc, Bool, ◌&&◌, List, ◌++◌, leb, length, drop}
-use Rattle.std.proofs.Math.Option.{Option, none, some}
-use Rattle.refusal.specs.Refusal.{Outcome, ok, refuse, bind, bad_argument, area_too_small}
+use Rattle.std.specs.Prelude.{ℕ, zero, suc, Bool, ◌&&◌, List, ◌++◌, leb, length, drop, Err, None, Ok, Option, Some}
+use Rattle.refusal.specs.Refusal.{Outcome, bind, bad_argument, area_too_small}
 use Rattle.text.specs.Text.{within, every, is_printable}
 use Rattle.key.specs.declared.Kind.{Kind}
 use Rattle.key.specs.declared.Kind.TheVariants.{Number, Text}
@@ -31,21 +30,21 @@ use Rattle.map.specs.declared.entry.Item.TheVariants as item
 -- ## Arguments
 -- "kind not 0 or 1"
 abbrev pub kind_of : ℕ → Outcome Kind
-kind_of zero = ok Number
-kind_of (suc zero) = ok Text
-kind_of (suc (suc n)) = refuse bad_argument
+kind_of zero = Ok Number
+kind_of (suc zero) = Ok Text
+kind_of (suc (suc n)) = Err bad_argument
 
 -- "map 0 with kind 0; map id above 2^31-1"
 abbrev pub asked_id : ℕ → Kind → Outcome (ℕ × Kind)
-asked_id map Number = branch (within 1 0x7fffffff map) (ok (map, Number)) (refuse bad_argument)
-asked_id map Text = branch (leb map 0x7fffffff) (ok (map, Text)) (refuse bad_argument)
+asked_id map Number = branch (within 1 0x7fffffff map) (Ok (map, Number)) (Err bad_argument)
+asked_id map Text = branch (leb map 0x7fffffff) (Ok (map, Text)) (Err bad_argument)
 
 unfoldable pub asked_map : ℕ → ℕ → Outcome (ℕ × Kind)
 asked_map map kind = bind (kind_of kind) (asked_id map)
 
 -- "key badly formed (kind 0 given as bytes: not 8)"
 unfoldable pub keyed : List ℕ → ℕ × Kind → Outcome (ℕ × Kind)
-keyed key m = branch (well_formed m.1 key) (ok m) (refuse bad_argument)
+keyed key m = branch (well_formed m.1 key) (Ok m) (Err bad_argument)
 
 -- "map name not 1 to 1,000 bytes of 32 to 126"
 unfoldable pub well_named : List ℕ → Bool
@@ -58,8 +57,8 @@ asking m image view ask = bind m (λ x. bind (opened_store image view) (λ s. as
 
 -- "copy area smaller than the value"
 abbrev pub fitting : ℕ → Option Entry → Outcome (Option Entry)
-fitting room none = ok none
-fitting room (some e) = branch (leb e.value.len room) (ok (some e)) (refuse area_too_small)
+fitting room None = Ok None
+fitting room (Some e) = branch (leb e.value.len room) (Ok (Some e)) (Err area_too_small)
 
 module _ (image : List ℕ) (view : View) (map kind : ℕ) where
   unfoldable pub lookup_of : List ℕ → Outcome (Option Entry)
@@ -77,12 +76,12 @@ module _ (image : List ℕ) (view : View) (map kind : ℕ) where
 
 -- "One call finds a map's id by name"
 unfoldable pub named_of : List ℕ → View → List ℕ → Outcome ℕ
-named_of image view name = branch (well_named name) (bind (opened_store image view) (λ s. map_id image s name)) (refuse bad_argument)
+named_of image view name = branch (well_named name) (bind (opened_store image view) (λ s. map_id image s name)) (Err bad_argument)
 
 -- ## What the code hands back
 abbrev pub asked_said : Target → Outcome (ℕ × Kind)
-asked_said (target.Map id kind) = ok (id, kind)
-asked_said (target.Refused r) = refuse r
+asked_said (target.Map id kind) = Ok (id, kind)
+asked_said (target.Refused r) = Err r
 
 -- "index and walk give the key too, kind 1 by place and length"
 abbrev pub entry_item : Key → Entry → Item
@@ -90,8 +89,8 @@ entry_item (number z) e = item.Number z e.value.at e.value.len
 entry_item (text t) e = item.Text e.key.at e.key.len e.value.at e.value.len
 
 unfoldable pub item_of : Outcome (Key × Entry) → Item
-item_of (ok e) = entry_item e.0 e.1
-item_of (refuse r) = item.Refused r
+item_of (Ok e) = entry_item e.0 e.1
+item_of (Err r) = item.Refused r
 
 -- an entry by the places of its key and its value: the key is what stands there
 unfoldable pub item_at : List ℕ → Kind → Entry → Item
@@ -104,6 +103,6 @@ item_by image kind (fetched.Refused r) = item.Refused r
 
 -- "A copy writes the value at the area's start and nothing after it."; "lent areas keep their bytes"
 unfoldable pub area_after : List ℕ → Outcome (Option Entry) → List ℕ → List ℕ
-area_after image (ok (some e)) area = value_bytes image e.value ++ drop e.value.len area
-area_after image (ok none) area = area
-area_after image (refuse r) area = area
+area_after image (Ok (Some e)) area = value_bytes image e.value ++ drop e.value.len area
+area_after image (Ok None) area = area
+area_after image (Err r) area = area

@@ -1,6 +1,5 @@
 // An entry as index gives it: a number key by its number, a text key by its place and length.
-ghost use Rattle.std.specs.Prelude.{◌≡◌};
-ghost use Rattle.refusal.specs.Refusal.{ok};
+ghost use Rattle.std.specs.Prelude.{◌≡◌, Ok};
 ghost use Rattle.store.specs.Asking.{index_in};
 ghost use Rattle.map.specs.Map.{item_of, index_of, item_at, item_by, asking};
 
@@ -56,7 +55,7 @@ fn item_by(image: &[u8], kind: Kind, f: Fetched) -> Item
 
 // The entry numbered `index` of a map that may be asked for.
 fn index_in(image: &[u8], view: View, id: u32, kind: Kind, index: u64) -> Item
-    ensures { result ≡ item_of (asking (ok (id, kind)) image.now view (λ s i k. index_in image.now s i k index)) }
+    ensures { result ≡ item_of (asking (Ok (id, kind)) image.now view (λ s i k. index_in image.now s i k index)) }
 {
     let o = viewing::open(image, view);
     match o {

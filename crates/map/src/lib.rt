@@ -5,8 +5,7 @@
 mod copying;
 mod entry;
 
-ghost use Rattle.std.specs.Prelude.{◌≡◌};
-ghost use Rattle.refusal.specs.Refusal.{ok};
+ghost use Rattle.std.specs.Prelude.{◌≡◌, Ok};
 ghost use Rattle.metadata.specs.Answers.{id_said};
 ghost use Rattle.store.specs.Asking.{value_of, counted_of, lookup_in, count_in};
 ghost use Rattle.key.specs.Key.{key_of};
@@ -84,7 +83,7 @@ pub fn lookup(image: &[u8], view: View, map: u64, kind: u64, key: &[u8]) -> Valu
 
 // How many entries a map has that may be asked for.
 fn count_in(image: &[u8], view: View, id: u32, kind: Kind) -> Counted
-    ensures { result ≡ counted_of (asking (ok (id, kind)) image.now view (λ s i k. count_in image.now s i k)) }
+    ensures { result ≡ counted_of (asking (Ok (id, kind)) image.now view (λ s i k. count_in image.now s i k)) }
 {
     let o = viewing::open(image, view);
     match o {

@@ -8,9 +8,8 @@
 --   location_by image edition n f         where chunk n stands by the answer of its lookup, with the questions that the lookup took
 --   located_by, value_by, id_by, root_by  the answers by a chunk's location, or by what a lookup answered
 --   place_said, id_said, root_said        the answers of the code as outcomes
-use Rattle.std.specs.Prelude.{ℕ, cond, List}
-use Rattle.std.proofs.Math.Option.{Option, none, some}
-use Rattle.refusal.specs.Refusal.{Outcome, ok, refuse, not_located, no_such_name, not_a_number}
+use Rattle.std.specs.Prelude.{ℕ, cond, List, Err, None, Ok, Option, Some}
+use Rattle.refusal.specs.Refusal.{Outcome, not_located, no_such_name, not_a_number}
 use Rattle.text.specs.Text.{bytes_at, within}
 use Rattle.numeral.specs.declared.hex.Number.{Number}
 use Rattle.numeral.specs.declared.hex.Number.TheVariants as number
@@ -57,39 +56,39 @@ standing_by image edition n v = stands_by image edition n (read_of (value_bytes 
 
 -- "5: [..] unusable entry, or chunk not standing there"
 abbrev pub placed_at : Standing → Outcome Place
-placed_at Nothing = refuse not_located
-placed_at (Stands c) = ok (place_of c)
+placed_at Nothing = Err not_located
+placed_at (Stands c) = Ok (place_of c)
 
 -- ## A map's id and root
 -- "Hex values follow the digits rule of a line; an id is 1 to 2^31-1."
 abbrev pub id_of : Number → Outcome ℕ
-id_of (number.Value v) = branch (within 1 0x7fffffff v) (ok v) (refuse not_a_number)
-id_of number.Bad = refuse not_a_number
+id_of (number.Value v) = branch (within 1 0x7fffffff v) (Ok v) (Err not_a_number)
+id_of number.Bad = Err not_a_number
 
 abbrev pub root_of : Number → Outcome ℕ
-root_of (number.Value v) = ok v
-root_of number.Bad = refuse not_a_number
+root_of (number.Value v) = Ok v
+root_of number.Bad = Err not_a_number
 
 abbrev pub named_id : List ℕ → Option Entry → Outcome ℕ
-named_id image none = refuse no_such_name
-named_id image (some e) = id_of (hex_of (value_bytes image e.value))
+named_id image None = Err no_such_name
+named_id image (Some e) = id_of (hex_of (value_bytes image e.value))
 
 abbrev pub named_root : List ℕ → Option Entry → Outcome ℕ
-named_root image none = ok 0
-named_root image (some e) = root_of (hex_of (value_bytes image e.value))
+named_root image None = Ok 0
+named_root image (Some e) = root_of (hex_of (value_bytes image e.value))
 
 -- ## What the code hands back
 abbrev pub place_said : Located → Outcome Place
-place_said (located.At l) = ok l
-place_said (located.Refused r) = refuse r
+place_said (located.At l) = Ok l
+place_said (located.Refused r) = Err r
 
 abbrev pub id_said : Id → Outcome ℕ
-id_said (id.Is n) = ok n
-id_said (id.Refused r) = refuse r
+id_said (id.Is n) = Ok n
+id_said (id.Refused r) = Err r
 
 abbrev pub root_said : Root → Outcome ℕ
-root_said (root.At p) = ok p.bits
-root_said (root.Refused r) = refuse r
+root_said (root.At p) = Ok p.bits
+root_said (root.Refused r) = Err r
 
 abbrev pub need_of : Answer → ℕ
 need_of (answer.Found at len need) = need
@@ -97,8 +96,8 @@ need_of (answer.Absent need) = need
 need_of (answer.Refused r) = 0
 
 abbrev pub location_of : ℕ → Outcome Place → Location
-location_of need (ok l) = location.At l need
-location_of need (refuse r) = location.Refused r
+location_of need (Ok l) = location.At l need
+location_of need (Err r) = location.Refused r
 
 -- "5: no entry, [..]"; "A refusal of such a lookup is handed up unchanged."
 unfoldable pub location_by : List ℕ → Edition → ℕ → Answer → Location
@@ -118,10 +117,10 @@ value_by (answer.Refused r) = value.Refused r
 
 unfoldable pub id_by : List ℕ → Answer → Outcome ℕ
 id_by image (answer.Found at len need) = id_of (hex_of (value_bytes image (record { at = at; len = len })))
-id_by image (answer.Absent need) = refuse no_such_name
-id_by image (answer.Refused r) = refuse r
+id_by image (answer.Absent need) = Err no_such_name
+id_by image (answer.Refused r) = Err r
 
 unfoldable pub root_by : List ℕ → Answer → Outcome ℕ
 root_by image (answer.Found at len need) = root_of (hex_of (value_bytes image (record { at = at; len = len })))
-root_by image (answer.Absent need) = ok 0
-root_by image (answer.Refused r) = refuse r
+root_by image (answer.Absent need) = Ok 0
+root_by image (answer.Refused r) = Err r

@@ -2,9 +2,8 @@
 --
 --   step_of k o          what a page answers a lookup of k: a child's position, a value, Absent or its refusal
 --   advance_of s need l  a descent after one page more: l says where the page's chunk is, s what the page there answers
-use Rattle.std.specs.Prelude.{ℕ, max}
-use Rattle.std.proofs.Math.Option.{Option, none, some}
-use Rattle.refusal.specs.Refusal.{Outcome, ok, refuse}
+use Rattle.std.specs.Prelude.{ℕ, max, Err, None, Ok, Option, Some}
+use Rattle.refusal.specs.Refusal.{Outcome}
 use Rattle.position.specs.Position.{of_bits}
 use Rattle.key.specs.Key.{Key, compare_keys}
 use Rattle.tree.specs.Page.{Page, leaf, inner}
@@ -20,13 +19,13 @@ use Rattle.metadata.specs.declared.descent.Advance.{Advance}
 use Rattle.metadata.specs.declared.descent.Advance.TheVariants.{To, Done}
 
 abbrev pub found_step : Option Entry → Step
-found_step none = step.Absent
-found_step (some e) = step.Found e.value.at e.value.len
+found_step None = step.Absent
+found_step (Some e) = step.Found e.value.at e.value.len
 
 unfoldable pub step_of : Key → Outcome (Page Key Entry) → Step
-step_of k (refuse r) = step.Refused r
-step_of k (ok (leaf es)) = found_step (find_in compare_keys k es)
-step_of k (ok (inner cs)) = step.Child (of_bits (child_for compare_keys k cs))
+step_of k (Err r) = step.Refused r
+step_of k (Ok (leaf es)) = found_step (find_in compare_keys k es)
+step_of k (Ok (inner cs)) = step.Child (of_bits (child_for compare_keys k cs))
 
 abbrev pub advance_by : ℕ → Step → Advance
 advance_by need (step.Child p) = To p need

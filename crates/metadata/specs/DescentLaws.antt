@@ -1,7 +1,6 @@
 -- Laws of one page of a descent, one for each way that the code takes. s is the image up to the page's end.
-use Rattle.std.specs.Prelude.{ℕ, ◌+◌, max, ◌≡◌, List, get_or, take}
+use Rattle.std.specs.Prelude.{ℕ, ◌+◌, max, ◌≡◌, List, get_or, take, None, Option, Some}
 use Rattle.std.proofs.Common.{sym, ◌∙◌, true≢false}
-use Rattle.std.proofs.Math.Option.{Option, none, some}
 use Rattle.refusal.specs.declared.Refusal.{Refusal}
 use Rattle.position.specs.declared.Position.{Position}
 use Rattle.position.specs.Position.{of_bits}
@@ -24,12 +23,12 @@ use Rattle.metadata.specs.declared.descent.Step.TheVariants as step
 use Rattle.metadata.specs.Descent.{found_step, step_of, advance_by, advance_of}
 
 found_step_lem : (o : Option Entry) {at len : ℕ} → found_of o ≡ found.At at len → step.Found at len ≡ found_step o
-found_step_lem none e = absurd (true≢false cc)
-found_step_lem (some v) e = cc
+found_step_lem None e = absurd (true≢false cc)
+found_step_lem (Some v) e = cc
 
 absent_step : (o : Option Entry) → found_of o ≡ found.Absent → step.Absent ≡ found_step o
-absent_step none e = cc
-absent_step (some v) e = absurd (true≢false cc)
+absent_step None e = cc
+absent_step (Some v) e = absurd (true≢false cc)
 
 -- ## A page
 module _ (image : List ℕ) (c : Place) (p map : ℕ) (kind : Kind) (k : Key) {j : Judged} (g : j ≡ judged_at image c p map kind) where

@@ -1,6 +1,6 @@
 -- What the exports hand to C, case by case, after document 01, "Numbers given back": "A refusal returns its number, all else 0".
-use Rattle.std.specs.Prelude.{ℕ, pos}
-use Rattle.refusal.specs.Refusal.{Outcome, ok, refuse}
+use Rattle.std.specs.Prelude.{ℕ, pos, Err, Ok}
+use Rattle.refusal.specs.Refusal.{Outcome}
 use Rattle.opening.specs.declared.Store.{Store}
 use Rattle.metadata.specs.declared.Value.{Value as Found}
 use Rattle.metadata.specs.declared.Value.TheVariants as found
@@ -24,10 +24,10 @@ use Rattle.mvstore.specs.declared.answer.Report.{Report}
 
 -- opening
 unfoldable pub newest_out : Outcome Store → Newest
-newest_out (ok s) =
+newest_out (Ok s) =
     let c = s.newest in
     record { refusal = 0; chunk = c.id; block = c.block; blocks = c.len; version = c.version }
-newest_out (refuse r) = record { refusal = r.number; chunk = 0; block = 0; blocks = 0; version = 0 }
+newest_out (Err r) = record { refusal = r.number; chunk = 0; block = 0; blocks = 0; version = 0 }
 
 -- lookup and copy: Absent is neither a refusal nor a value of length 0
 unfoldable pub value_out : Found → Value
@@ -48,8 +48,8 @@ count_out (counted.Refused r) = record { refusal = r.number; count = 0 }
 
 -- a map's id
 unfoldable pub id_out : Outcome ℕ → Id
-id_out (ok n) = record { refusal = 0; id = n }
-id_out (refuse r) = record { refusal = r.number; id = 0 }
+id_out (Ok n) = record { refusal = 0; id = n }
+id_out (Err r) = record { refusal = r.number; id = 0 }
 
 -- a step of the walk: the state also after a refusal
 abbrev pub stop_out : ℕ → ℕ → Walk → Step

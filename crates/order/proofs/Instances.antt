@@ -5,8 +5,8 @@
 use Rattle.std.specs.Prelude.{ℕ, ◌<◌, ◌≡◌, refl, Bool, true, false, cond, List, [], ◌∷◌, ◌++◌, ltb, ℤ, pos, negsuc}
 use Rattle.std.proofs.Common.{ap, arith, ltb-true, ltb-false, lt-ltb, le-ltb}
 use Rattle.std.specs.Int.Signed.{lt_z}
-use Rattle.order.specs.declared.Order.{Order}
-use Rattle.order.specs.declared.Order.TheVariants.{Less, Equal, Greater}
+use Rattle.std.specs.declared.cmp.Ordering.{Ordering}
+use Rattle.std.specs.declared.cmp.Ordering.TheVariants.{Less, Equal, Greater}
 use Rattle.order.specs.Order.{turned, is_less, TotalOrder, Below, below, by_test, compare_nat, compare_int, then, lex}
 
 -- ## A comparison by a test
@@ -111,12 +111,12 @@ int_order =
     by_test_order (record { irreflexive = int_irreflexive; transitive = int_transitive; connected = int_connected })
 
 -- ## Lists, a beginning before its extension
-turned_then : (a b : Order) → turned (then a b) ≡ then (turned a) (turned b)
+turned_then : (a b : Ordering) → turned (then a b) ≡ then (turned a) (turned b)
 turned_then Less b = refl
 turned_then Equal b = refl
 turned_then Greater b = refl
 
-module _ {A : Type 0} {cmp : A → A → Order} (L : TotalOrder A cmp) where
+module _ {A : Type 0} {cmp : A → A → Ordering} (L : TotalOrder A cmp) where
   lex_self : (a : List A) → lex cmp a a ≡ Equal
   lex_self [] = refl
   lex_self (x ∷ xs) = rw (L.self x) (lex_self xs)
@@ -132,7 +132,7 @@ module _ {A : Type 0} {cmp : A → A → Order} (L : TotalOrder A cmp) where
   lex_same (x ∷ xs) [] e = cc
   lex_same (x ∷ xs) (y ∷ ys) e = go (λ h. lex_same xs ys h) (cmp x y) refl e
     where
-      go : (lex cmp xs ys ≡ Equal → xs ≡ ys) → (o : Order) → cmp x y ≡ o → then o (lex cmp xs ys) ≡ Equal → (x ∷ xs) ≡ (y ∷ ys)
+      go : (lex cmp xs ys ≡ Equal → xs ≡ ys) → (o : Ordering) → cmp x y ≡ o → then o (lex cmp xs ys) ≡ Equal → (x ∷ xs) ≡ (y ∷ ys)
       go ih Less c e = cc
       go ih Equal c e = λ i. L.same x y c i ∷ ih e i
       go ih Greater c e = cc
@@ -144,11 +144,11 @@ module _ {A : Type 0} {cmp : A → A → Order} (L : TotalOrder A cmp) where
   lex_flip (x ∷ xs) (y ∷ ys) = rw (L.flip x y, lex_flip xs ys, turned_then)
 
   -- first elements, then r, s and t for what the rests give
-  then_trans : (x y z : A) (r s t : Order) → (r ≡ Less → s ≡ Less → t ≡ Less) → then (cmp x y) r ≡ Less → then (cmp y z) s ≡ Less
+  then_trans : (x y z : A) (r s t : Ordering) → (r ≡ Less → s ≡ Less → t ≡ Less) → then (cmp x y) r ≡ Less → then (cmp y z) s ≡ Less
       → then (cmp x z) t ≡ Less
   then_trans x y z r s t f p q = go (cmp x y) (cmp y z) refl refl p q
     where
-      go : (a b : Order) → cmp x y ≡ a → cmp y z ≡ b → then a r ≡ Less → then b s ≡ Less → then (cmp x z) t ≡ Less
+      go : (a b : Ordering) → cmp x y ≡ a → cmp y z ≡ b → then a r ≡ Less → then b s ≡ Less → then (cmp x z) t ≡ Less
       go Less Less e g p q = rw (L.trans x y z e g)
       go Less Equal e g p q = rw (← (L.same y z g), e)
       go Less Greater e g p q = cc

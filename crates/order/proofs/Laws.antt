@@ -2,16 +2,16 @@
 -- tells, true-X and false-X from there to the test; a-b-c goes from a and b to c.
 use Rattle.std.specs.Prelude.{ℕ, ◌≡◌, refl, Bool, true, false}
 use Rattle.std.proofs.Common.{◌∙◌, ap, arith}
-use Rattle.order.specs.declared.Order.{Order}
-use Rattle.order.specs.declared.Order.TheVariants.{Less, Equal, Greater}
+use Rattle.std.specs.declared.cmp.Ordering.{Ordering}
+use Rattle.std.specs.declared.cmp.Ordering.TheVariants.{Less, Equal, Greater}
 use Rattle.order.specs.Order.{turned, is_less, TotalOrder, Below, UpTo, below}
 
-is_less_true : (o : Order) → is_less o ≡ true → o ≡ Less
+is_less_true : (o : Ordering) → is_less o ≡ true → o ≡ Less
 is_less_true Less e = refl
 is_less_true Equal e = cc
 is_less_true Greater e = cc
 
-module _ {K : Type 0} (cmp : K → K → Order) where
+module _ {K : Type 0} (cmp : K → K → Ordering) where
   -- ## The test of Below
   pub below_true : (a b : K) → below cmp a b ≡ true → Below cmp a b
   below_true a b e = is_less_true (cmp a b) e
@@ -32,7 +32,7 @@ module _ {K : Type 0} (cmp : K → K → Order) where
       go false e = e
 
 -- ## A strict total order
-module _ {K : Type 0} {cmp : K → K → Order} (L : TotalOrder K cmp) where
+module _ {K : Type 0} {cmp : K → K → Ordering} (L : TotalOrder K cmp) where
   pub below_irreflexive : (a : K) → Below cmp a a → ⊥
   below_irreflexive a h =
       let s = L.self a in
@@ -51,7 +51,7 @@ module _ {K : Type 0} {cmp : K → K → Order} (L : TotalOrder K cmp) where
   pub below_upto_below : (a b c : K) → Below cmp a b → UpTo cmp b c → Below cmp a c
   below_upto_below a b c h k = go (cmp b c) refl
     where
-      go : (o : Order) → cmp b c ≡ o → Below cmp a c
+      go : (o : Ordering) → cmp b c ≡ o → Below cmp a c
       go Less e = L.trans a b c h e
       go Equal e = rw (L.same b c e) at h
       go Greater e = absurd (k (greater_below b c e))
@@ -59,7 +59,7 @@ module _ {K : Type 0} {cmp : K → K → Order} (L : TotalOrder K cmp) where
   pub upto_below_below : (a b c : K) → UpTo cmp a b → Below cmp b c → Below cmp a c
   upto_below_below a b c k h = go (cmp a b) refl
     where
-      go : (o : Order) → cmp a b ≡ o → Below cmp a c
+      go : (o : Ordering) → cmp a b ≡ o → Below cmp a c
       go Less e = L.trans a b c e h
       go Equal e = rw (← (L.same a b e)) at h
       go Greater e = absurd (k (greater_below a b e))

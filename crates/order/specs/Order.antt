@@ -11,26 +11,26 @@
 --   lex cmp           lists by their elements, a beginning before its extension: kind 1 keys
 use Rattle.std.specs.Prelude.{ℕ, ◌≡◌, Bool, true, false, cond, List, [], ◌∷◌, ltb, ℤ}
 use Rattle.std.specs.Int.Signed.{lt_z}
-use Rattle.order.specs.declared.Order.{Order}
-use Rattle.order.specs.declared.Order.TheVariants.{Less, Equal, Greater}
+use Rattle.std.specs.declared.cmp.Ordering.{Ordering}
+use Rattle.std.specs.declared.cmp.Ordering.TheVariants.{Less, Equal, Greater}
 
-abbrev pub turned : Order → Order
+abbrev pub turned : Ordering → Ordering
 turned Less = Greater
 turned Equal = Equal
 turned Greater = Less
 
-abbrev pub is_less : Order → Bool
+abbrev pub is_less : Ordering → Bool
 is_less Less = true
 is_less Equal = false
 is_less Greater = false
 
-pub record TotalOrder (K : Type 0) (cmp : K → K → Order) : Type 0 where
+pub record TotalOrder (K : Type 0) (cmp : K → K → Ordering) : Type 0 where
   pub self : (a : K) → cmp a a ≡ Equal
   pub same : (a b : K) → cmp a b ≡ Equal → a ≡ b
   pub flip : (a b : K) → cmp b a ≡ turned (cmp a b)
   pub trans : (a b c : K) → cmp a b ≡ Less → cmp b c ≡ Less → cmp a c ≡ Less
 
-module _ {K : Type 0} (cmp : K → K → Order) where
+module _ {K : Type 0} (cmp : K → K → Ordering) where
   abbrev pub Below : K → K → Type 0
   Below a b = cmp a b ≡ Less
 
@@ -41,23 +41,23 @@ module _ {K : Type 0} (cmp : K → K → Order) where
   below a b = is_less (cmp a b)
 
 -- ## The orders of document 01
-abbrev pub by_test : {K : Type 0} → (K → K → Bool) → K → K → Order
+abbrev pub by_test : {K : Type 0} → (K → K → Bool) → K → K → Ordering
 by_test lt a b = cond (lt a b) Less (cond (lt b a) Greater Equal)
 
-abbrev pub compare_nat : ℕ → ℕ → Order
+abbrev pub compare_nat : ℕ → ℕ → Ordering
 compare_nat = by_test ltb
 
-abbrev pub compare_int : ℤ → ℤ → Order
+abbrev pub compare_int : ℤ → ℤ → Ordering
 compare_int = by_test lt_z
 
 -- the first answer, unless it is Equal
-abbrev pub then : Order → Order → Order
+abbrev pub then : Ordering → Ordering → Ordering
 then Less o = Less
 then Equal o = o
 then Greater o = Greater
 
 -- "ordered by byte, a beginning before its extension"
-abbrev pub lex : {A : Type 0} → (A → A → Order) → List A → List A → Order
+abbrev pub lex : {A : Type 0} → (A → A → Ordering) → List A → List A → Ordering
 lex cmp [] [] = Equal
 lex cmp [] (y ∷ ys) = Less
 lex cmp (x ∷ xs) [] = Greater

@@ -1,9 +1,3 @@
+// What an order of keys is, and which orders there are: definitions and theorems only, in specs/ and
+// proofs/. The three answers of a comparison are std's `Ordering`.
 #![tactic(auto)]
-
-// The three answers of a comparison. What an order is, and which orders there are, is in specs/.
-#[derive(Clone, Copy)]
-pub enum Order {
-    Less,
-    Equal,
-    Greater,
-}

@@ -1,52 +1,94 @@
-// Document 01's table of refusals. A refusal is made here and nowhere else, so that what a later
-// request adds to it (a place, a chunk id) is added in one spot.
+// Document 01's table of refusals.
 #![tactic(auto)]
 
-ghost use Rattle.std.specs.Prelude.{◌≡◌};
-ghost use Rattle.refusal.specs.Refusal.{refusal};
+ghost use Rattle.std.specs.Prelude.{◌≡◌, ok_or};
+ghost use Rattle.refusal.specs.Refusal.{number_of, refusal_of};
 
-#[derive(Clone, Copy)]
-pub struct Refusal {
-    pub number: u8,
+use std::error::Error;
+use std::fmt;
+
+#[derive(Clone, Copy, Debug, PartialEq, Eq, Hash)]
+pub enum Refusal {
+    Argument,
+    ImageSize,
+    NoHeader,
+    NoStart,
+    NotLocated,
+    NinthQuestion,
+    Place,
+    CheckValue,
+    MapOrType,
+    Contents,
+    TooDeep,
+    Unsound,
+    NoSuchName,
+    NotANumber,
+    Index,
+    AreaTooSmall,
 }
 
 impl Refusal {
-    pub const ARGUMENT: u8 = 1;
-
-    pub const IMAGE_SIZE: u8 = 2;
-
-    pub const NO_HEADER: u8 = 3;
-
-    pub const NO_START: u8 = 4;
-
-    pub const NOT_LOCATED: u8 = 5;
-
-    pub const NINTH_QUESTION: u8 = 6;
-
-    pub const PLACE: u8 = 7;
-
-    pub const CHECK_VALUE: u8 = 8;
-
-    pub const MAP_OR_TYPE: u8 = 9;
-
-    pub const CONTENTS: u8 = 10;
-
-    pub const TOO_DEEP: u8 = 11;
-
-    pub const UNSOUND: u8 = 12;
-
-    pub const NO_SUCH_NAME: u8 = 13;
-
-    pub const NOT_A_NUMBER: u8 = 14;
-
-    pub const INDEX: u8 = 15;
-
-    pub const AREA_TOO_SMALL: u8 = 16;
-
-    // The refusal with a number of the table.
-    pub fn new(number: u8) -> Self
-        ensures { result ≡ refusal number }
+    // Its number in the table.
+    pub fn number(self) -> u8
+        ensures { result ≡ number_of self }
     {
-        Refusal { number }
+        match self {
+            Refusal::Argument => 1,
+            Refusal::ImageSize => 2,
+            Refusal::NoHeader => 3,
+            Refusal::NoStart => 4,
+            Refusal::NotLocated => 5,
+            Refusal::NinthQuestion => 6,
+            Refusal::Place => 7,
+            Refusal::CheckValue => 8,
+            Refusal::MapOrType => 9,
+            Refusal::Contents => 10,
+            Refusal::TooDeep => 11,
+            Refusal::Unsound => 12,
+            Refusal::NoSuchName => 13,
+            Refusal::NotANumber => 14,
+            Refusal::Index => 15,
+            Refusal::AreaTooSmall => 16,
+        }
     }
 }
+
+// A number that is none of the table's.
+#[derive(Clone, Copy, Debug, PartialEq, Eq, Hash)]
+pub struct NotInTable;
+
+impl TryFrom<u32> for Refusal {
+    type Error = NotInTable;
+
+    ghost try_from_gives = { λ n r. r ≡ ok_or (refusal_of n) (record { }) };
+
+    fn try_from(number: u32) -> Result<Self, NotInTable> {
+        match number {
+            1 => Ok(Refusal::Argument),
+            2 => Ok(Refusal::ImageSize),
+            3 => Ok(Refusal::NoHeader),
+            4 => Ok(Refusal::NoStart),
+            5 => Ok(Refusal::NotLocated),
+            6 => Ok(Refusal::NinthQuestion),
+            7 => Ok(Refusal::Place),
+            8 => Ok(Refusal::CheckValue),
+            9 => Ok(Refusal::MapOrType),
+            10 => Ok(Refusal::Contents),
+            11 => Ok(Refusal::TooDeep),
+            12 => Ok(Refusal::Unsound),
+            13 => Ok(Refusal::NoSuchName),
+            14 => Ok(Refusal::NotANumber),
+            15 => Ok(Refusal::Index),
+            16 => Ok(Refusal::AreaTooSmall),
+            _ => Err(NotInTable),
+        }
+    }
+}
+
+impl fmt::Display for Refusal {
+    fn fmt<W: fmt::Write>(&self, f: &mut fmt::Formatter<W>) -> fmt::Result {
+        write!(f, "refused {}", self.number())
+    }
+}
+
+impl Error for Refusal {}

@@ -5,8 +5,7 @@
 --   risen_below b ks         the keys rise strictly and the last of them is below the bound b
 --   rise_of image kind b ps  how far the keys at the spots ps rise strictly, the first above b
 --   first_of ps              the first of them as a bound
-use Rattle.std.specs.Prelude.{ℕ, Bool, cond, ◌&&◌, List, [], ◌∷◌}
-use Rattle.std.proofs.Math.Option.{Option, none, some}
+use Rattle.std.specs.Prelude.{ℕ, Bool, cond, ◌&&◌, List, [], ◌∷◌, None, Option, Some}
 use Rattle.key.specs.declared.Kind.{Kind}
 use Rattle.key.specs.Key.{Key, compare_keys}
 use Rattle.tree.specs.Examination.{above_bound}
@@ -19,11 +18,11 @@ use Rattle.rising.specs.declared.Rise.{Rise}
 use Rattle.rising.specs.declared.Rise.TheVariants as rise
 
 unfoldable pub bound_key : List ℕ → Kind → Bound → Option Key
-bound_key image kind bound.Open = none
-bound_key image kind (bound.Key at len) = some (key_in image kind (record { at = at; len = len }))
+bound_key image kind bound.Open = None
+bound_key image kind (bound.Key at len) = Some (key_in image kind (record { at = at; len = len }))
 
 abbrev pub risen_below : Option Key → List Key → Bool
-risen_below b ks = rises compare_keys none ks && last_below compare_keys b ks
+risen_below b ks = rises compare_keys None ks && last_below compare_keys b ks
 
 unfoldable pub rise_of : List ℕ → Kind → Bound → List Spot → Rise
 rise_of image kind b [] = rise.Ends b

@@ -2,12 +2,11 @@
 --
 --   Climbing image kind s f b left i answer  the answer of a loop that has `left` keys from place i on, the last before them b
 --   end_below hi r                           the last of keys that rise is below the bound; not so of keys that don't rise
-use Rattle.std.specs.Prelude.{ℕ, ◌-◌, ◌≤◌, ◌<◌, ◌≡◌, Bool, cond, ◌&&◌, take}
+use Rattle.std.specs.Prelude.{ℕ, ◌-◌, ◌≤◌, ◌<◌, ◌≡◌, Bool, cond, ◌&&◌, take, None, Some}
 use Rattle.std.proofs.Math.Path.{refl}
 use Rattle.std.proofs.Common.{sym, ◌∙◌, ap, true≢false}
 use Rattle.std.proofs.Math.Bool.{true, false}
 use mathlib.Core.List.{List, [], ◌∷◌, map}
-use Rattle.std.proofs.Math.Option.{none, some}
 use native.Mathlib.Omega.{arith}
 use Rattle.std.proofs.Math.ListN.{length-take}
 use Rattle.key.specs.declared.Kind.{Kind}
@@ -90,32 +89,32 @@ module _ (image : List ℕ) (kind : Kind) where
 
     end_after : (p : Spot) (ps : List Spot)
         → end_below (rise_of image kind (bound.Key p.at p.len) ps)
-        ≡ (rises compare_keys (some (key_in image kind p)) (map (key_in image kind) ps)
+        ≡ (rises compare_keys (Some (key_in image kind p)) (map (key_in image kind) ps)
         && last_below compare_keys (bound_key image kind hi) (key_in image kind p ∷ map (key_in image kind) ps))
     unfolding rise_of rises last_below bound_key
     end_after p [] = refl
-    end_after p (q ∷ ps) = go (above_bound compare_keys (some (key_in image kind p)) (key_in image kind q)) (end_after q ps)
+    end_after p (q ∷ ps) = go (above_bound compare_keys (Some (key_in image kind p)) (key_in image kind q)) (end_after q ps)
       where
         go : (t : Bool)
             → end_below (rise_of image kind (bound.Key q.at q.len) ps)
-            ≡ (rises compare_keys (some (key_in image kind q)) (map (key_in image kind) ps)
+            ≡ (rises compare_keys (Some (key_in image kind q)) (map (key_in image kind) ps)
             && last_below compare_keys (bound_key image kind hi) (key_in image kind q ∷ map (key_in image kind) ps))
             → end_below (cond t (rise_of image kind (bound.Key q.at q.len) ps) rise.Falls)
-            ≡ ((t && rises compare_keys (some (key_in image kind q)) (map (key_in image kind) ps))
+            ≡ ((t && rises compare_keys (Some (key_in image kind q)) (map (key_in image kind) ps))
             && last_below compare_keys (bound_key image kind hi) (key_in image kind q ∷ map (key_in image kind) ps))
         go true ih = ih
         go false ih = refl
 
     end_all : (ps : List Spot)
         → end_below (rise_of image kind bound.Open ps)
-        ≡ (rises compare_keys none (map (key_in image kind) ps) && last_below compare_keys (bound_key image kind hi) (map (key_in image kind) ps))
+        ≡ (rises compare_keys None (map (key_in image kind) ps) && last_below compare_keys (bound_key image kind hi) (map (key_in image kind) ps))
     unfolding rise_of rises last_below bound_key
     end_all [] = refl
     end_all (p ∷ ps) = end_after p ps
 
     pub end_below_lem : (end n keys : ℕ)
         → end_below (rise_of image kind bound.Open (up_to (items (take end image) (key_form kind)) n keys))
-        ≡ (rises compare_keys none (keys_in (take end image) kind n keys)
+        ≡ (rises compare_keys None (keys_in (take end image) kind n keys)
         && last_below compare_keys (bound_key image kind hi) (keys_in (take end image) kind n keys))
     end_below_lem end n keys = rw (keys_at end n keys) (end_all (up_to (items (take end image) (key_form kind)) n keys))
 
@@ -155,7 +154,7 @@ module _ (image : List ℕ) (kind : Kind) where
         separators_first = rw begins.1 (sym t)
 
         pub separators_rise : {x : Bool} → r ≡ true
-            → x ≡ (rises compare_keys none (keys_in (take end image) kind n keys)
+            → x ≡ (rises compare_keys None (keys_in (take end image) kind n keys)
             && last_below compare_keys (bound_key image kind hi) (keys_in (take end image) kind n keys))
             → x ≡ separators_test compare_keys (bound_key image kind lo) (bound_key image kind hi) (keys_in (take end image) kind n keys)
         separators_rise q y = rw (separators_first, q) y
@@ -170,7 +169,7 @@ module _ (image : List ℕ) (kind : Kind) where
         keys_first = rw begins.1 (sym t)
 
         pub keys_rise : {x : Bool} → r ≡ true
-            → x ≡ (rises compare_keys none (keys_in (take end image) kind n keys)
+            → x ≡ (rises compare_keys None (keys_in (take end image) kind n keys)
             && last_below compare_keys (bound_key image kind hi) (keys_in (take end image) kind n keys))
             → x ≡ keys_test compare_keys (bound_key image kind lo) (bound_key image kind hi) (keys_in (take end image) kind n keys)
         keys_rise q y = rw (keys_first, q) y

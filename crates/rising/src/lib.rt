@@ -14,7 +14,7 @@ ghost use Rattle.content.specs.Content.{key_in, keys_in};
 ghost use Rattle.rising.specs.Rising.{bound_key, risen_below, rise_of, first_of};
 
 use key::{Kind, Sized};
-use order::Order;
+use std::cmp::Ordering;
 
 // The nearest separator above on a side, by its place in the image; or none.
 #[derive(Clone, Copy)]
@@ -30,13 +30,13 @@ pub enum Rise {
     Falls,
 }
 
-fn is_less(o: Order) -> bool
+fn is_less(o: Ordering) -> bool
     ensures { result ≡ is_less o }
 {
     match o {
-        Order::Less => true,
-        Order::Equal => false,
-        Order::Greater => false,
+        Ordering::Less => true,
+        Ordering::Equal => false,
+        Ordering::Greater => false,
     }
 }
 

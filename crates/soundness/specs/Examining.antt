@@ -3,8 +3,8 @@
 --   examined_of        what the code hands back
 --   leaf_of, child_of  a leaf; the child that the cursors stand at
 --   part_of .. j       what a page that is judged says by itself: all, or that its children are to be examined
-use Rattle.std.specs.Prelude.{ℕ, zero, suc, ◌+◌, Bool, true, cond, ◌&&◌, List, ltb, get_or, take}
-use Rattle.refusal.specs.Refusal.{Outcome, ok, refuse, unsound}
+use Rattle.std.specs.Prelude.{ℕ, zero, suc, ◌+◌, Bool, true, cond, ◌&&◌, List, ltb, get_or, take, Err, Ok}
+use Rattle.refusal.specs.Refusal.{Outcome, unsound}
 use Rattle.key.specs.declared.Kind.{Kind}
 use Rattle.key.specs.declared.sized.Sized.{Sized}
 use Rattle.key.specs.declared.sized.Sized.TheVariants as sized
@@ -39,8 +39,8 @@ abbrev pub figures : Report → Figures
 figures a = record { entries = a.entries; pages = a.pages; depth = a.depth }
 
 unfoldable pub examined_of : Outcome Report → Examined
-examined_of (ok a) = examined.Passed (figures a)
-examined_of (refuse r) = examined.Refused r
+examined_of (Ok a) = examined.Passed (figures a)
+examined_of (Err r) = examined.Refused r
 
 -- ## A leaf
 -- "only the root may be an empty leaf", by the number of its entries

@@ -1,12 +1,11 @@
 -- Laws of the items at the cursors: a recorded count and those after it, a separator and those after it.
 --
 --   NextKey  the separator at a cursor, as a bound
-use Rattle.std.specs.Prelude.{ℕ, suc, ◌+◌, ◌<◌, ◌≡◌, Bool, cond, ltb, length}
+use Rattle.std.specs.Prelude.{ℕ, suc, ◌+◌, ◌<◌, ◌≡◌, Bool, cond, ltb, length, Some}
 use Rattle.std.proofs.Math.Path.{refl}
 use Rattle.std.proofs.Common.{◌∙◌, ap}
 use Rattle.std.proofs.Math.Bool.{true, false, true≢false}
 use mathlib.Core.List.{List, [], ◌∷◌, map}
-use Rattle.std.proofs.Math.Option.{some}
 use Rattle.std.proofs.Math.ListN.{get_or, drop}
 use Rattle.std.proofs.Math.Seq.{drop-cons}
 use Rattle.key.specs.declared.Kind.{Kind}
@@ -44,7 +43,7 @@ module _ (s : List ℕ) (n i j : ℕ) where
 
   module _ (image : List ℕ) (kind : Kind) where
     pub record NextKey (ks : List Key) (d : Key) : Type 0 where
-      pub bound : bound_key image kind (separator_at s kind i).bound ≡ some (get_or ks j d)
+      pub bound : bound_key image kind (separator_at s kind i).bound ≡ Some (get_or ks j d)
       pub rest : map (key_in image kind) (up_to (items s (key_form kind)) n (separator_at s kind i).next) ≡ drop (suc j) ks
 
     next_key : (ks : List Key) (d : Key) {at len next : ℕ} → item_at s (key_form kind) i ≡ sized.At at len next → j < length ks
@@ -55,7 +54,7 @@ module _ (s : List ℕ) (n i j : ℕ) where
         let e = k ∙ drop-cons ks j d h in
         let a : key_in image kind (record { at = at; len = len }) ≡ get_or ks j d = cc in
         let b : map (key_in image kind) (up_to (items s (key_form kind)) n next) ≡ drop (suc j) ks = cc in
-        record { bound = rw q (ap some a); rest = rw q b }
+        record { bound = rw q (ap Some a); rest = rw q b }
 
     pub keys_next : (ks : List Key) (d : Key) → j < length ks → map (key_in image kind) (up_to (items s (key_form kind)) (suc n) i) ≡ drop j ks
         → NextKey ks d

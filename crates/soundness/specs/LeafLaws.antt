@@ -1,13 +1,12 @@
 -- Laws of the examination of a leaf, one for each way that the code takes.
 --
 --   one_page n  the report of a leaf with n entries
-use Rattle.std.specs.Prelude.{ℕ, zero, suc, ◌≡◌, Bool, ◌&&◌, List, [], ◌∷◌, length, take}
+use Rattle.std.specs.Prelude.{ℕ, zero, suc, ◌≡◌, Bool, ◌&&◌, List, [], ◌∷◌, length, take, Err, None, Ok, Option}
 use Rattle.std.proofs.Math.Path.{refl}
 use Rattle.std.proofs.Common.{sym}
 use Rattle.std.proofs.Math.Bool.{true, false, cond}
-use Rattle.std.proofs.Math.Option.{Option, none}
 use Rattle.refusal.specs.declared.Refusal.{Refusal}
-use Rattle.refusal.specs.Refusal.{ok, refuse, unsound}
+use Rattle.refusal.specs.Refusal.{unsound}
 use Rattle.key.specs.declared.Kind.{Kind}
 use Rattle.key.specs.Key.{Key, compare_keys}
 use Rattle.tree.specs.Page.{branch}
@@ -29,18 +28,18 @@ filled_full true (e ∷ es) = refl
 filled_full false [] = refl
 filled_full false (e ∷ es) = refl
 
-leaf_branch : (t : Bool) (n : ℕ) → examined_of (branch t (ok (one_leaf n)) (refuse unsound))
+leaf_branch : (t : Bool) (n : ℕ) → examined_of (branch t (Ok (one_leaf n)) (Err unsound))
     ≡ cond t (one_page n) (examined.Refused unsound)
 unfolding examined_of
 leaf_branch true n = refl
 leaf_branch false n = refl
 
 pub leaf_law : {W : Type 0} (top : Bool) (lo hi : Option Key) (es : List (Key × W)) {ks : List Key} {n : ℕ} → keys_of es ≡ ks → length es ≡ n
-    → keys_lie compare_keys lo hi none es ≡ keys_test compare_keys lo hi (keys_of es)
+    → keys_lie compare_keys lo hi None es ≡ keys_test compare_keys lo hi (keys_of es)
     → cond (full_by top n && keys_test compare_keys lo hi ks) (one_page n) (examined.Refused unsound)
-    ≡ examined_of (branch (filled top es && keys_lie compare_keys lo hi none es) (ok (one_leaf (length es))) (refuse unsound))
+    ≡ examined_of (branch (filled top es && keys_lie compare_keys lo hi None es) (Ok (one_leaf (length es))) (Err unsound))
 leaf_law top lo hi es e d t =
-    rw (← e, ← d, ← t, filled_full top es) (sym (leaf_branch (filled top es && keys_lie compare_keys lo hi none es) (length es)))
+    rw (← e, ← d, ← t, filled_full top es) (sym (leaf_branch (filled top es && keys_lie compare_keys lo hi None es) (length es)))
 
 pub full_top : (n : ℕ) {top : Bool} → top ≡ true → full_by top n ≡ true
 full_top zero e = e

@@ -1,10 +1,9 @@
 -- Laws of the public answers: what was told or sought with 8 questions is what the definitions say.
-use Rattle.std.specs.Prelude.{ℕ, ◌≤◌, ◌<◌, ◌≡◌, List, length}
+use Rattle.std.specs.Prelude.{ℕ, ◌≤◌, ◌<◌, ◌≡◌, List, length, Err, None, Ok, Some}
 use Rattle.std.proofs.Math.Path.{sym}
-use Rattle.std.proofs.Math.Option.{none, some}
 use Rattle.std.proofs.Common.{eq-eqb, ne_eqb, lt-ltb, le-ltb}
 use Rattle.refusal.specs.declared.Refusal.{Refusal}
-use Rattle.refusal.specs.Refusal.{ok, refuse, bind, bad_argument}
+use Rattle.refusal.specs.Refusal.{bind, bad_argument}
 use Rattle.key.specs.declared.Kind.{Kind}
 use Rattle.key.specs.declared.Kind.TheVariants.{Text}
 use Rattle.key.specs.Key.{Key, key_of, text, compare_keys}
@@ -32,17 +31,17 @@ module _ (image : List ℕ) (store : Store) where
   -- ## What was sought in a map
   module _ (map : ℕ) (kind : Kind) (root : ℕ) (k : Key) where
     sought_found : (at len n : ℕ) → IsAnswer image store map kind root k 8 (answer.Found at len n)
-        → (e : Entry) × (e.value ≡ record { at = at; len = len }) × (map_lookup compare_keys (reader image store map kind) k root ≡ ok (some e))
+        → (e : Entry) × (e.value ≡ record { at = at; len = len }) × (map_lookup compare_keys (reader image store map kind) k root ≡ Ok (Some e))
     unfolding IsAnswer reader chunk_at
     sought_found at len n (e, i, h, g) = (e, i, gated_open g 8 h)
 
     sought_absent : (n : ℕ) → IsAnswer image store map kind root k 8 (answer.Absent n)
-        → map_lookup compare_keys (reader image store map kind) k root ≡ ok none
+        → map_lookup compare_keys (reader image store map kind) k root ≡ Ok None
     unfolding IsAnswer reader chunk_at
     sought_absent n (h, g) = gated_open g 8 h
 
     sought_refused : {r : Refusal} → IsAnswer image store map kind root k 8 (answer.Refused r)
-        → map_lookup compare_keys (reader image store map kind) k root ≡ refuse r
+        → map_lookup compare_keys (reader image store map kind) k root ≡ Err r
     unfolding IsAnswer reader chunk_at
     sought_refused s = s
 
@@ -77,10 +76,10 @@ module _ (image : List ℕ) (store : Store) where
     unfolding map_root key_of
     root_sought map h e = rw (ne_eqb map 0 h) (root_by_lem (root_key map) f (rw e at s))
 
-  pub name_long : (name : List ℕ) → 1000 < length name → named_map image store name ≡ refuse bad_argument
+  pub name_long : (name : List ℕ) → 1000 < length name → named_map image store name ≡ Err bad_argument
   unfolding named_map
   name_long name h = rw (lt-ltb 1000 (length name) h)
 
-  pub root_metadata : (map : ℕ) → map ≡ 0 → map_root image store map ≡ ok (asked_root store)
+  pub root_metadata : (map : ℕ) → map ≡ 0 → map_root image store map ≡ Ok (asked_root store)
   unfolding map_root
   root_metadata map e = rw (eq-eqb map 0 e)

@@ -5,15 +5,14 @@
 --   went_on child t               a fetch by index after one page: the answer, or what the child answers
 --   counted_by j                  how many entries a page that is judged has or records
 use Prim.Native.Nat.{ℕ, zero, suc, ◌+◌, ◌-◌, ◌≤◌, ◌<◌}
-use Rattle.std.specs.Prelude.{◌≡◌, length, get_or}
+use Rattle.std.specs.Prelude.{◌≡◌, length, get_or, None, Ok, Option, Some, slice_get}
 use Rattle.std.proofs.Math.Path.{refl, ap}
 use Rattle.std.proofs.Common.{sym, ◌∙◌}
 use mathlib.Core.List.{List, [], ◌∷◌}
-use Rattle.std.proofs.Math.Option.{Option, none, some}
 use native.Mathlib.Omega.{arith}
-use Rattle.std.proofs.Math.ListN.{get_elem?, take}
+use Rattle.std.proofs.Math.ListN.{take}
 use Rattle.refusal.specs.declared.Refusal.{Refusal}
-use Rattle.refusal.specs.Refusal.{Outcome, ok, bind, bad_index, too_deep}
+use Rattle.refusal.specs.Refusal.{Outcome, bind, bad_index, too_deep}
 use Rattle.position.specs.declared.Position.{Position}
 use Rattle.position.specs.Position.{of_bits}
 use Rattle.key.specs.declared.Kind.{Kind}
@@ -64,12 +63,12 @@ picked_turn ps picked.Over = turn.Done (fetched.Refused bad_index)
 
 nth_turn_lem : (o : Option (Key × Entry)) → nth_turn (nth_of o) ≡ entry_turn o
 unfolding fetched_of
-nth_turn_lem (some e) = refl
-nth_turn_lem none = refl
+nth_turn_lem (Some e) = refl
+nth_turn_lem None = refl
 
 picked_turn_lem : (ps : List ℕ) (o : Option (ℕ × ℕ)) → picked_turn ps (picked_of o) ≡ child_turn ps o
-picked_turn_lem ps (some c) = refl
-picked_turn_lem ps none = refl
+picked_turn_lem ps (Some c) = refl
+picked_turn_lem ps None = refl
 
 module _ (image : List ℕ) (kind : Kind) (i : ℕ) where
   pub turn_refused : {j : Judged} {r : Refusal} → j ≡ judged.Refused r → turn.Done (fetched.Refused r) ≡ turn_of image kind i j
@@ -77,10 +76,10 @@ module _ (image : List ℕ) (kind : Kind) (i : ℕ) where
   turn_refused h = rw h
 
   pub turn_leaf : {j : Judged} {n keys values e : ℕ} {s : List ℕ} {o a : Nth} → j ≡ judged.Leaf n keys values e → s ≡ take e image
-      → o ≡ nth_of (get_elem? (entries_in s kind n keys values) i) → o ≡ a → nth_turn a ≡ turn_of image kind i j
+      → o ≡ nth_of (slice_get (entries_in s kind n keys values) i) → o ≡ a → nth_turn a ≡ turn_of image kind i j
   unfolding turn_of
   turn_leaf {n = n} {keys = keys} {values = values} {e = e} h k f g =
-      rw (h, ← g, f, k) (nth_turn_lem (get_elem? (entries_in (take e image) kind n keys values) i))
+      rw (h, ← g, f, k) (nth_turn_lem (slice_get (entries_in (take e image) kind n keys values) i))
 
   pub turn_inner : {j : Judged} {n positions counts keys e total : ℕ} {s : List ℕ} {o a : Picked}
       → j ≡ judged.Inner n positions counts keys e total → s ≡ take e image
@@ -95,7 +94,7 @@ module _ (child : ℕ → ℕ → Outcome (Key × Entry)) where
   went_on (turn.Child p rest) = fetched_of (child rest p.bits)
   went_on (turn.Done f) = f
 
-  entry_turn_lem : (i : ℕ) (es : List (Key × Entry)) → fetched_of (nth i es) ≡ went_on (entry_turn (get_elem? es i))
+  entry_turn_lem : (i : ℕ) (es : List (Key × Entry)) → fetched_of (nth i es) ≡ went_on (entry_turn (slice_get es i))
   unfolding fetched_of
   entry_turn_lem i [] = refl
   entry_turn_lem zero (e ∷ es) = refl
@@ -103,8 +102,8 @@ module _ (child : ℕ → ℕ → Outcome (Key × Entry)) where
 
   child_turn_lem : (ps : List ℕ) (o : Option (ℕ × ℕ)) → fetched_of (picked child ps o) ≡ went_on (child_turn ps o)
   unfolding fetched_of
-  child_turn_lem ps (some c) = refl
-  child_turn_lem ps none = refl
+  child_turn_lem ps (Some c) = refl
+  child_turn_lem ps None = refl
 
   index_turn : (image : List ℕ) (kind : Kind) (i : ℕ) (j : Judged) → Whole image kind j
       → fetched_of (index_page child i (page_of image kind j)) ≡ went_on (turn_of image kind i j)
@@ -219,20 +218,20 @@ module _ (image : List ℕ) (store : Store) (map : ℕ) (kind : Kind) where
   reader_in : (p : ℕ) → InLeaf (EntryIn image kind) (reader image store map kind p)
   reader_in p = rw (reader_judged image store map kind p) (page_in_lem image kind (judged_by image store map kind p))
 
-  pub lookup_inside : (k : Key) (e : Entry) → lookup_in image store map kind k ≡ ok (some e) → e.value.at + e.value.len ≤ length image
+  pub lookup_inside : (k : Key) (e : Entry) → lookup_in image store map kind k ≡ Ok (Some e) → e.value.at + e.value.len ≤ length image
   unfolding lookup_in
   lookup_inside k e h =
       let b = bind_ok (map_root image store map) _ _ h in
       let x = map_lookup_holds (EntryIn image kind) (reader image store map kind) reader_in compare_keys k b.0 b.2 in
       x.1.value_inside
 
-  index_in_lem : (i : ℕ) (x : Key × Entry) → index_in image store map kind i ≡ ok x → EntryIn image kind x
+  index_in_lem : (i : ℕ) (x : Key × Entry) → index_in image store map kind i ≡ Ok x → EntryIn image kind x
   unfolding index_in
   index_in_lem i x h =
       let b = bind_ok (map_root image store map) _ _ h in
       map_index_holds (EntryIn image kind) (reader image store map kind) reader_in i b.0 b.2
 
-  module _ (i : ℕ) (k : Key) (e : Entry) (h : index_in image store map kind i ≡ ok (k, e)) where
+  module _ (i : ℕ) (k : Key) (e : Entry) (h : index_in image store map kind i ≡ Ok (k, e)) where
     pub index_inside : (e.key.at + e.key.len ≤ length image) × (e.value.at + e.value.len ≤ length image)
     index_inside = let x = index_in_lem i (k, e) h in (x.key_inside, x.value_inside)
 

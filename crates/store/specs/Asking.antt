@@ -5,10 +5,8 @@
 --   lookup_in, index_in, count_in     lookup, index and count of a map by its id and kind
 --   value_of, fetched_of, counted_of  what the code hands back
 --   turn_of image kind i j            one page of a fetch by index: the child to go on at, or the answer
-use Rattle.std.specs.Prelude.{ℕ, ◌+◌, List, get_or, take}
-use Rattle.std.proofs.Math.Option.{Option, none, some}
-use Rattle.std.proofs.Math.ListN.{get_elem?}
-use Rattle.refusal.specs.Refusal.{Outcome, ok, refuse, bind, bad_index}
+use Rattle.std.specs.Prelude.{ℕ, ◌+◌, List, get_or, take, Err, None, Ok, Option, Some, slice_get}
+use Rattle.refusal.specs.Refusal.{Outcome, bind, bad_index}
 use Rattle.position.specs.Position.{chunk_of, of_bits}
 use Rattle.key.specs.declared.Kind.{Kind}
 use Rattle.key.specs.Key.{Key, compare_keys}
@@ -31,12 +29,12 @@ use Rattle.store.specs.Store.{chunk_at, reader, map_root}
 
 -- ## Pages
 abbrev pub judged_in : Outcome Judged → Judged
-judged_in (ok j) = j
-judged_in (refuse r) = judged.Refused r
+judged_in (Ok j) = j
+judged_in (Err r) = judged.Refused r
 
 unfoldable pub judged_by : List ℕ → Store → ℕ → Kind → ℕ → Judged
 judged_by image store map kind p =
-    judged_in (read_at chunk_of (chunk_at image store 8) (λ l q. ok (judged_at image l q map kind)) p)
+    judged_in (read_at chunk_of (chunk_at image store 8) (λ l q. Ok (judged_at image l q map kind)) p)
 
 -- ## Questions
 module _ (image : List ℕ) (store : Store) (map : ℕ) where
@@ -55,31 +53,31 @@ module _ (image : List ℕ) (store : Store) (map : ℕ) where
 -- ## What the code hands back
 -- "A found value is given as its place in the image and its length"
 unfoldable pub value_of : Outcome (Option Entry) → Value
-value_of (ok (some e)) = value.At e.value.at e.value.len
-value_of (ok none) = value.Absent
-value_of (refuse r) = value.Refused r
+value_of (Ok (Some e)) = value.At e.value.at e.value.len
+value_of (Ok None) = value.Absent
+value_of (Err r) = value.Refused r
 
 -- "index and walk give the key too": by place and length
 unfoldable pub fetched_of : Outcome (Key × Entry) → Fetched
-fetched_of (ok e) = fetched.At e.1.key.at e.1.key.len e.1.value.at e.1.value.len
-fetched_of (refuse r) = fetched.Refused r
+fetched_of (Ok e) = fetched.At e.1.key.at e.1.key.len e.1.value.at e.1.value.len
+fetched_of (Err r) = fetched.Refused r
 
 unfoldable pub counted_of : Outcome ℕ → Counted
-counted_of (ok n) = counted.Is n
-counted_of (refuse r) = counted.Refused r
+counted_of (Ok n) = counted.Is n
+counted_of (Err r) = counted.Refused r
 
 -- ## One page of a fetch by index
 abbrev pub entry_turn : Option (Key × Entry) → Turn
-entry_turn (some e) = turn.Done (fetched_of (ok e))
-entry_turn none = turn.Done (fetched.Refused bad_index)
+entry_turn (Some e) = turn.Done (fetched_of (Ok e))
+entry_turn None = turn.Done (fetched.Refused bad_index)
 
 abbrev pub child_turn : List ℕ → Option (ℕ × ℕ) → Turn
-child_turn ps (some c) = turn.Child (of_bits (get_or ps c.0 0)) c.1
-child_turn ps none = turn.Done (fetched.Refused bad_index)
+child_turn ps (Some c) = turn.Child (of_bits (get_or ps c.0 0)) c.1
+child_turn ps None = turn.Done (fetched.Refused bad_index)
 
 unfoldable pub turn_of : List ℕ → Kind → ℕ → Judged → Turn
 turn_of image kind i (judged.Refused r) = turn.Done (fetched.Refused r)
-turn_of image kind i (judged.Leaf n keys values e) = entry_turn (get_elem? (entries_in (take e image) kind n keys values) i)
+turn_of image kind i (judged.Leaf n keys values e) = entry_turn (slice_get (entries_in (take e image) kind n keys values) i)
 turn_of image kind i (judged.Inner n positions counts keys e total) =
     let s = take e image in
     child_turn (positions_in s (n + 1) positions) (pick 0 i (counts_in s (n + 1) counts))

@@ -3,14 +3,13 @@
 --   child_in ..                 the examination of one child
 --   children_examined ..        the examination of them all
 --   Came .. j counts keys lo r  the loop has come to child number j, with the figures r of those before it
-use Rattle.std.specs.Prelude.{ℕ, suc, ◌+◌, ◌-◌, ◌^◌, ◌≤◌, ◌<◌, max, ◌≡◌, refl, Bool, true, false, List, [], map, ltb, length, get_or, take, drop}
+use Rattle.std.specs.Prelude.{ℕ, suc, ◌+◌, ◌-◌, ◌^◌, ◌≤◌, ◌<◌, max, ◌≡◌, refl, Bool, true, false, List, [], map, ltb, length, get_or, take, drop, Err, Ok, Option, Some}
 use Rattle.std.proofs.Common.{sym, ◌∙◌, add-one, drop-cons}
 use Rattle.std.proofs.Math.Path.{ap}
-use Rattle.std.proofs.Math.Option.{Option, some}
 use native.Mathlib.Omega.{arith}
 use borrow.Author.Tests.{ltb-true, ltb-false, lt-ltb, le-ltb}
 use Rattle.refusal.specs.declared.Refusal.{Refusal}
-use Rattle.refusal.specs.Refusal.{Outcome, ok, refuse, bind}
+use Rattle.refusal.specs.Refusal.{Outcome, bind}
 use Rattle.key.specs.declared.Kind.{Kind}
 use Rattle.key.specs.Key.{Key, text, compare_keys}
 use Rattle.tree.specs.Examination.{Report, nothing, both, counted, examine_children, examine}
@@ -39,13 +38,13 @@ use Rattle.store.specs.Examining.{tallied, Fits}
 use Rattle.store.specs.TallyLaws.{reported, tally_refused, PassedChild, tally_passed, few_pages, fits_all}
 
 -- ## The loop
-both_nothing : (o : Outcome Report) → bind o (λ a. ok (both nothing a)) ≡ o
-both_nothing (ok a) =
+both_nothing : (o : Outcome Report) → bind o (λ a. Ok (both nothing a)) ≡ o
+both_nothing (Ok a) =
     let e : 0 + a.entries ≡ a.entries = omega arith in
     let p : 0 + a.pages ≡ a.pages = omega arith in
     let d : max 0 a.depth ≡ a.depth = omega arith in
-    λ i. ok (record { entries = e i; pages = p i; depth = d i })
-both_nothing (refuse r) = refl
+    λ i. Ok (record { entries = e i; pages = p i; depth = d i })
+both_nothing (Err r) = refl
 
 abbrev pub child_in : List ℕ → Store → ℕ → Kind → ℕ → Option Key → Option Key → ℕ → Outcome Report
 child_in image store m kind levels = examine compare_keys (reader image store m kind) levels false
@@ -69,7 +68,7 @@ children_examined image store m kind levels b lo hi =
     (children_in (cut_of image b) kind b.n b.positions b.counts b.keys)
 
 module _ (image : List ℕ) (store : Store) (m : ℕ) (kind : Kind) (levels : ℕ) where
-  child_bounds : (lo hi : Option Key) (p : ℕ) (a : Report) → child_in image store m kind levels lo hi p ≡ ok a
+  child_bounds : (lo hi : Option Key) (p : ℕ) (a : Report) → child_in image store m kind levels lo hi p ≡ Ok a
       → (a.entries < 2 ^ 48) × Small levels a
   child_bounds lo hi p a e = (
     examine_below compare_keys (reader image store m kind) (2 ^ 48) (reader_below image store m kind) levels false lo hi p a e,
@@ -137,7 +136,7 @@ module _ (image : List ℕ) (store : Store) (m : ℕ) (kind : Kind) (levels : �
         outcome = child_in image store m kind levels (bound_key image kind lo) (bound_key image kind c.hi) c.position.bits
 
         module _ (h : j < b.n) where
-          bound_here : bound_key image kind c.hi ≡ some (get_or (separators_of image kind b) j (text []))
+          bound_here : bound_key image kind c.hi ≡ Some (get_or (separators_of image kind b) j (text []))
           bound_here = rw (separator_here h).0 (key_here h).bound
 
           more_here : bind (bind outcome (counted c.count)) (λ x. examine_from (child_in image store m kind levels) (both (reported r) x)
@@ -149,7 +148,7 @@ module _ (image : List ℕ) (store : Store) (m : ℕ) (kind : Kind) (levels : �
               let all = more_from (positions_of image b) (counts_of image b) (separators_of image kind b) (text []) j h in
               rw (bound_here, ← position_here, ← count_here.0) (rw all at a.same)
 
-        end_here : j ≡ b.n → bind (bind outcome (counted c.count)) (λ x. ok (both (reported r) x))
+        end_here : j ≡ b.n → bind (bind outcome (counted c.count)) (λ x. Ok (both (reported r) x))
             ≡ children_examined image store m kind levels b start hi
         end_here e =
             let n : j ≡ length (separators_of image kind b) = e ∙ sym w.all_keys in
@@ -183,8 +182,8 @@ module _ (image : List ℕ) (store : Store) (m : ℕ) (kind : Kind) (levels : �
             unfolding examined_of
             came_last i =
                 let p = child_passed in
-                let all = bind (bind outcome (counted c.count)) (λ x. ok (both (reported r) x)) in
-                let f : examined_of (ok (both (reported r) p.report)) ≡ examined_of all = rw p.tested in
+                let all = bind (bind outcome (counted c.count)) (λ x. Ok (both (reported r) x)) in
+                let f : examined_of (Ok (both (reported r) p.report)) ≡ examined_of all = rw p.tested in
                 ap (λ (x : Report). examined.Passed (figures x)) p.sum ∙ f ∙ ap examined_of (end_here i)
 
             pub came_on : ¬ (j ≡ b.n) → Came (j + 1) c.counts c.keys c.hi z

@@ -3,13 +3,12 @@
 --   tells-X           what locating a chunk tells
 --   sought-X, came-X  what a descent answers; where it has come to
 use Prim.Native.Nat.{ℕ, zero, suc, ◌-◌, ◌≤◌, ◌<◌, max}
-use Rattle.std.specs.Prelude.{◌≡◌, List}
+use Rattle.std.specs.Prelude.{◌≡◌, List, Err, None, Ok, Option, Some}
 use Rattle.std.proofs.Math.Path.{refl}
 use Rattle.std.proofs.Common.{◌∙◌, ap}
-use Rattle.std.proofs.Math.Option.{Option, none, some}
 use native.Mathlib.Omega.{arith}
 use Rattle.refusal.specs.declared.Refusal.{Refusal}
-use Rattle.refusal.specs.Refusal.{Outcome, ok, refuse, ninth_question, out_of_place, too_deep}
+use Rattle.refusal.specs.Refusal.{Outcome, ninth_question, out_of_place, too_deep}
 use Rattle.position.specs.declared.Position.{Position}
 use Rattle.key.specs.declared.Kind.{Kind}
 use Rattle.key.specs.declared.Kind.TheVariants.{Text}
@@ -112,33 +111,33 @@ module _ (image : List ℕ) (store : Store) where
     Advanced left (Done r) = IsAnswer image store map kind root k q r
 
     module _ {need left p : ℕ} (other : ¬ (p ≡ 0)) (a : Came need (suc left) p) where
-      refused_advanced : (r : Refusal) → read_with (metadata image store) (λ l p. page_in image l p map kind) q p ≡ refuse r
+      refused_advanced : (r : Refusal) → read_with (metadata image store) (λ l p. page_in image l p map kind) q p ≡ Err r
           → Advanced left (Done (answer.Refused r))
       unfolding IsAnswer
       refused_advanced r e =
           descent_refused (metadata image store) (λ l p. page_in image l p map kind) root k p left a.came q a.enough e
 
       module _ (l : Place) (n : ℕ) (h : n ≤ q) (d : Known (metadata image store) (chunk_of p) l n) where
-        leaf_advanced : (es : List (Key × Entry)) → page_in image l p map kind ≡ ok (leaf es)
+        leaf_advanced : (es : List (Key × Entry)) → page_in image l p map kind ≡ Ok (leaf es)
             → Advanced left (advance_by (max need n) (found_step (find_in compare_keys k es)))
         unfolding IsAnswer
         leaf_advanced es i = go (find_in compare_keys k es) refl
           where
             found : Gated (max need n) (asked_in (metadata image store) (λ l p. page_in image l p map kind) root k)
-                (λ r. ok (find_in compare_keys k es))
+                (λ r. Ok (find_in compare_keys k es))
             found =
                 leaf_found (metadata image store) (λ l p. page_in image l p map kind) root k p left a.came other d i
 
             go : (o : Option Entry) → find_in compare_keys k es ≡ o → Advanced left (advance_by (max need n) (found_step o))
-            go none e = (omega (arith, a.enough), gated_same found (λ r. ap ok e))
-            go (some v) e = (v, refl, omega (arith, a.enough), gated_same found (λ r. ap ok e))
+            go None e = (omega (arith, a.enough), gated_same found (λ r. ap Ok e))
+            go (Some v) e = (v, refl, omega (arith, a.enough), gated_same found (λ r. ap Ok e))
 
         page_advanced : (o : Outcome (Page Key Entry)) → page_in image l p map kind ≡ o → Advanced left (advance_by (max need n) (step_of k o))
         unfolding step_of
-        page_advanced (refuse r) i =
+        page_advanced (Err r) i =
             refused_advanced r (gated_open (page_known (metadata image store) (λ l p. page_in image l p map kind) other d) q h ∙ i)
-        page_advanced (ok (leaf es)) i = leaf_advanced es i
-        page_advanced (ok (inner cs)) i =
+        page_advanced (Ok (leaf es)) i = leaf_advanced es i
+        page_advanced (Ok (inner cs)) i =
             record {
               enough = omega (arith, a.enough);
               came = child_reached (metadata image store) (λ l p. page_in image l p map kind) root k p left a.came other d i;

@@ -5,14 +5,13 @@
 --   lying, below    of an inner page: the test of its separators, and the examination of its children
 --   Under b         of an inner page whose children are to be examined: nothing of it is missing, and they say what it is
 use Prim.Native.Nat.{ℕ, zero, suc, ◌+◌, ◌-◌}
-use Rattle.std.specs.Prelude.{◌≡◌, Bool, cond, ◌&&◌, List, length}
+use Rattle.std.specs.Prelude.{◌≡◌, Bool, cond, ◌&&◌, List, length, Err, None, Ok}
 use Rattle.std.proofs.Math.Path.{refl, ap}
 use Rattle.std.proofs.Common.{sym, ◌∙◌, true≢false, add-one, sub-one}
 use Rattle.std.proofs.Math.Bool.{true, false}
-use Rattle.std.proofs.Math.Option.{none}
 use Rattle.std.proofs.Math.ListN.{take}
 use Rattle.refusal.specs.declared.Refusal.{Refusal}
-use Rattle.refusal.specs.Refusal.{Outcome, ok, refuse, bind, too_deep, unsound}
+use Rattle.refusal.specs.Refusal.{Outcome, bind, too_deep, unsound}
 use Rattle.position.specs.declared.Position.{Position}
 use Rattle.key.specs.declared.Kind.{Kind}
 use Rattle.key.specs.Key.{compare_keys}
@@ -46,10 +45,10 @@ use Rattle.store.specs.ReadLaws.{reader_judged, judged_all}
 use Rattle.store.specs.Examining.{examine_in, over_children, WholePage}
 
 -- ## An inner page
-over_examined : (o : Outcome Report) → over_children (examined_of o) ≡ examined_of (bind o (λ a. ok (over a)))
+over_examined : (o : Outcome Report) → over_children (examined_of o) ≡ examined_of (bind o (λ a. Ok (over a)))
 unfolding examined_of over_children
-over_examined (ok a) = rw (add-one a.pages, add-one a.depth)
-over_examined (refuse r) = refl
+over_examined (Ok a) = rw (add-one a.pages, add-one a.depth)
+over_examined (Err r) = refl
 
 done_is : {x y : Examined} → part.Done x ≡ part.Done y → y ≡ x
 done_is e = cc
@@ -89,8 +88,8 @@ module _ (image : List ℕ) (store : Store) (m : ℕ) (kind : Kind) where
 
       module _ {n keys values e : ℕ} (k : j ≡ judged.Leaf n keys values e) where
         leaf_read : examined_of (branch (filled top (entries_in (take e image) kind n keys values)
-            && keys_lie compare_keys (bound_key image kind lo) (bound_key image kind hi) none (entries_in (take e image) kind n keys values))
-            (ok (one_leaf (length (entries_in (take e image) kind n keys values)))) (refuse unsound)) ≡ examined_at levels top lo hi p
+            && keys_lie compare_keys (bound_key image kind lo) (bound_key image kind hi) None (entries_in (take e image) kind n keys values))
+            (Ok (one_leaf (length (entries_in (take e image) kind n keys values)))) (Err unsound)) ≡ examined_at levels top lo hi p
         unfolding page_of
         leaf_read = rw k at (at_page some_left is)
 
@@ -122,7 +121,7 @@ module _ (image : List ℕ) (store : Store) (m : ℕ) (kind : Kind) where
             (bound_key image kind hi) (children_in (take e image) kind n positions counts keys)
 
         inner_read : (t : Bool) → lying ≡ t
-            → examined_of (branch t (bind below (λ a. ok (over a))) (refuse unsound))
+            → examined_of (branch t (bind below (λ a. Ok (over a))) (Err unsound))
             ≡ examined_at levels top lo hi p
         unfolding page_of
         inner_read t q =
@@ -189,7 +188,7 @@ module _ (image : List ℕ) (store : Store) (m : ℕ) (kind : Kind) (r : Root) (
   module _ {p : Position} (e : r ≡ root.At p) where
     pub map_empty : p.bits ≡ 0 → examined.Passed (record { entries = 0; pages = 0; depth = 0 }) ≡ examined_of (examine_in image store m kind)
     unfolding examined_of map_examine
-    map_empty z = by_root (ap root_said e ∙ ap ok z)
+    map_empty z = by_root (ap root_said e ∙ ap Ok z)
 
     pub map_examined : ¬ (p.bits ≡ 0) → examined_at image store m kind 16 true bound.Open bound.Open p.bits ≡ examined_of (examine_in image store m kind)
     unfolding map_examine bound_key
@@ -197,6 +196,6 @@ module _ (image : List ℕ) (store : Store) (m : ℕ) (kind : Kind) (r : Root) (
       where
         go : (q : ℕ) → ¬ (q ≡ 0)
             → examined_of (map_examine compare_keys (reader image store m kind) q) ≡ examined_of (examine_in image store m kind)
-            → examined_of (examine compare_keys (reader image store m kind) 16 true none none q) ≡ examined_of (examine_in image store m kind)
+            → examined_of (examine compare_keys (reader image store m kind) 16 true None None q) ≡ examined_of (examine_in image store m kind)
         go zero h k = absurd (h refl)
         go (suc q) h k = k

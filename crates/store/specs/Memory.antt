@@ -3,9 +3,7 @@
 --   RightWords image store ws      each chunk that the words hold is known: it stands there, and takes as many questions
 --   IsLocation, IsAnswer           what an answer of `locate`, of `descend` says
 --   IsAnswerIn image m root key q  the same of a map that is asked, by a key's bytes
-use Rattle.std.specs.Prelude.{ℕ, ◌≤◌, ◌≡◌, List}
-use Rattle.std.proofs.Math.Option.{none, some}
-use Rattle.refusal.specs.Refusal.{ok, refuse}
+use Rattle.std.specs.Prelude.{ℕ, ◌≤◌, ◌≡◌, List, Err, None, Ok, Some}
 use Rattle.position.specs.declared.Position.{Position}
 use Rattle.key.specs.declared.Kind.{Kind}
 use Rattle.key.specs.Key.{Key, key_of}
@@ -27,17 +25,17 @@ module _ (image : List ℕ) (store : Store) where
 
   unfoldable pub IsLocation : ℕ → ℕ → Location → Type 0
   IsLocation q c (location.At l need) = (need ≤ q) × Known (metadata image store) c l need
-  IsLocation q c (location.Refused r) = located (metadata image store) q c ≡ refuse r
+  IsLocation q c (location.Refused r) = located (metadata image store) q c ≡ Err r
 
   -- a lookup of the key k in the map whose root is given
   unfoldable pub IsAnswer : ℕ → Kind → ℕ → Key → ℕ → Answer → Type 0
   IsAnswer map kind root k q (answer.Found at len need) =
       (e : Entry) × (e.value ≡ record { at = at; len = len }) × (need ≤ q) ×
-      Gated need (asked_in (metadata image store) (λ l p. page_in image l p map kind) root k) (λ r. ok (some e))
+      Gated need (asked_in (metadata image store) (λ l p. page_in image l p map kind) root k) (λ r. Ok (Some e))
   IsAnswer map kind root k q (answer.Absent need) =
-      (need ≤ q) × Gated need (asked_in (metadata image store) (λ l p. page_in image l p map kind) root k) (λ r. ok none)
+      (need ≤ q) × Gated need (asked_in (metadata image store) (λ l p. page_in image l p map kind) root k) (λ r. Ok None)
   IsAnswer map kind root k q (answer.Refused r) =
-      asked_in (metadata image store) (λ l p. page_in image l p map kind) root k q ≡ refuse r
+      asked_in (metadata image store) (λ l p. page_in image l p map kind) root k q ≡ Err r
 
 abbrev pub IsAnswerIn : List ℕ → Map → Position → List ℕ → ℕ → Answer → Type 0
 IsAnswerIn image m root key q r = IsAnswer image m.store m.id m.kind root.bits (key_of m.kind key) q r

@@ -1,10 +1,10 @@
 -- Laws of a page that is read by its position: one for each way that the code takes, and that it is the page as data.
-use Rattle.std.specs.Prelude.{ℕ, ◌≡◌, Bool, List, eqb}
+use Rattle.std.specs.Prelude.{ℕ, ◌≡◌, Bool, List, eqb, Err, Ok}
 use Rattle.std.proofs.Math.Path.{refl}
 use Rattle.std.proofs.Common.{◌∙◌, ap, eq-eqb, ne_eqb}
 use Rattle.std.proofs.Math.Bool.{true, false}
 use Rattle.refusal.specs.declared.Refusal.{Refusal}
-use Rattle.refusal.specs.Refusal.{Outcome, ok, refuse, bind, out_of_place}
+use Rattle.refusal.specs.Refusal.{Outcome, bind, out_of_place}
 use Rattle.position.specs.Position.{chunk_of}
 use Rattle.key.specs.declared.Kind.{Kind}
 use Rattle.opening.specs.declared.Store.{Store}
@@ -29,12 +29,12 @@ module _ (image : List ℕ) (store : Store) (map : ℕ) (kind : Kind) (p : ℕ) 
   judged_zero e i = rw (eq-eqb p 0 e, i)
 
   judged_chunk : ¬ (p ≡ 0) → {o : Outcome Place} → o ≡ chunk_at image store 8 (chunk_of p)
-      → judged_in (bind o (λ c. ok (judged_at image c p map kind))) ≡ judged_by image store map kind p
+      → judged_in (bind o (λ c. Ok (judged_at image c p map kind))) ≡ judged_by image store map kind p
   unfolding judged_by
   judged_chunk other e = rw (ne_eqb p 0 other, e)
 
   module _ (other : ¬ (p ≡ 0)) {c : ℕ} (t : Location) (e : c ≡ chunk_of p) (tells : IsLocation image store 8 c t) where
-    judged_told : judged_in (bind (place_said (located_by t)) (λ l. ok (judged_at image l p map kind))) ≡ judged_by image store map kind p
+    judged_told : judged_in (bind (place_said (located_by t)) (λ l. Ok (judged_at image l p map kind))) ≡ judged_by image store map kind p
     judged_told = judged_chunk other (place_told image store c t tells ∙ ap (chunk_at image store 8) e)
 
     pub judged_there : {l : Place} {n : ℕ} → t ≡ location.At l n → judged_at image l p map kind ≡ judged_by image store map kind p
@@ -51,11 +51,11 @@ module _ (image : List ℕ) (store : Store) (map : ℕ) (kind : Kind) (p : ℕ) 
   reader_judged = go (eqb p 0) (chunk_at image store 8 (chunk_of p))
     where
       go : (t : Bool) (o : Outcome Place)
-          → branch t (refuse out_of_place) (bind o (λ c. page_in image c p map kind))
-          ≡ page_of image kind (judged_in (branch t (refuse out_of_place) (bind o (λ c. ok (judged_at image c p map kind)))))
+          → branch t (Err out_of_place) (bind o (λ c. page_in image c p map kind))
+          ≡ page_of image kind (judged_in (branch t (Err out_of_place) (bind o (λ c. Ok (judged_at image c p map kind)))))
       go true o = refl
-      go false (ok c) = refl
-      go false (refuse r) = refl
+      go false (Ok c) = refl
+      go false (Err r) = refl
 
   -- nothing is missing from a page that is judged good
   pub judged_all : Whole image kind (judged_by image store map kind p)
@@ -63,7 +63,7 @@ module _ (image : List ℕ) (store : Store) (map : ℕ) (kind : Kind) (p : ℕ) 
   judged_all = go (eqb p 0) (chunk_at image store 8 (chunk_of p))
     where
       go : (t : Bool) (o : Outcome Place)
-          → Whole image kind (judged_in (branch t (refuse out_of_place) (bind o (λ c. ok (judged_at image c p map kind)))))
+          → Whole image kind (judged_in (branch t (Err out_of_place) (bind o (λ c. Ok (judged_at image c p map kind)))))
       go true o = tt
-      go false (ok c) = judged_whole image c p map kind
-      go false (refuse r) = tt
+      go false (Ok c) = judged_whole image c p map kind
+      go false (Err r) = tt

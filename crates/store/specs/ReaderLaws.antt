@@ -1,9 +1,9 @@
 -- What the theory of maps needs of the reading of an image's pages: leaves have fewer than 2^31 entries, inner pages record fewer
 -- than 2^48.
-use Rattle.std.specs.Prelude.{ℕ, ◌^◌, ◌≡◌, Bool, List, eqb}
+use Rattle.std.specs.Prelude.{ℕ, ◌^◌, ◌≡◌, Bool, List, eqb, Err, Ok}
 use Rattle.std.proofs.Math.Bool.{true, false}
 use Rattle.std.proofs.Common.{arith}
-use Rattle.refusal.specs.Refusal.{ok, refuse, bind, out_of_place}
+use Rattle.refusal.specs.Refusal.{bind, out_of_place}
 use Rattle.position.specs.Position.{chunk_of}
 use Rattle.key.specs.declared.Kind.{Kind}
 use Rattle.key.specs.Key.{Key}
@@ -18,14 +18,14 @@ use Rattle.store.specs.Store.{chunk_at, reader}
 
 module _ (image : List ℕ) (store : Store) (map : ℕ) (kind : Kind) where
   -- a page that is read stands in a located chunk
-  pub reader_page : (p : ℕ) (page : Page Key Entry) → reader image store map kind p ≡ ok page
-      → (l : Place) × (page_in image l p map kind ≡ ok page)
+  pub reader_page : (p : ℕ) (page : Page Key Entry) → reader image store map kind p ≡ Ok page
+      → (l : Place) × (page_in image l p map kind ≡ Ok page)
   unfolding reader
   reader_page p page e = go (eqb p 0) e
     where
       go : (t : Bool)
-          → branch t (refuse out_of_place) (bind (chunk_at image store 8 (chunk_of p)) (λ l. page_in image l p map kind)) ≡ ok page
-          → (l : Place) × (page_in image l p map kind ≡ ok page)
+          → branch t (Err out_of_place) (bind (chunk_at image store 8 (chunk_of p)) (λ l. page_in image l p map kind)) ≡ Ok page
+          → (l : Place) × (page_in image l p map kind ≡ Ok page)
       go true e = refuse_ok out_of_place page e
       go false e =
           let h = bind_ok (chunk_at image store 8 (chunk_of p)) (λ l. page_in image l p map kind) page e in

@@ -10,9 +10,8 @@
 --   map_id image store name        "`name.X` gives map X's id in hex"
 --   named_map image store name     the same, a name of more than 1,000 bytes refused with 1
 --   map_root image store map       "`root.` with the id gives its root, absent meaning 0"
-use Rattle.std.specs.Prelude.{ℕ, List, eqb, ltb, length}
-use Rattle.std.proofs.Math.Option.{Option}
-use Rattle.refusal.specs.Refusal.{Outcome, ok, refuse, bind, bad_argument}
+use Rattle.std.specs.Prelude.{ℕ, List, eqb, ltb, length, Err, Ok, Option}
+use Rattle.refusal.specs.Refusal.{Outcome, bind, bad_argument}
 use Rattle.position.specs.Position.{chunk_of}
 use Rattle.key.specs.declared.Kind.{Kind}
 use Rattle.key.specs.declared.Kind.TheVariants.{Text}
@@ -71,8 +70,8 @@ map_id image store name = bind (meta_value image store (name_key name)) (named_i
 
 unfoldable pub map_root : List ℕ → Store → ℕ → Outcome ℕ
 map_root image store map =
-    branch (eqb map 0) (ok (asked_root store)) (bind (meta_value image store (root_key map)) (named_root image))
+    branch (eqb map 0) (Ok (asked_root store)) (bind (meta_value image store (root_key map)) (named_root image))
 
 -- "map name not 1 to 1,000 bytes of 32 to 126" is refusal 1
 unfoldable pub named_map : List ℕ → Store → List ℕ → Outcome ℕ
-named_map image store name = branch (ltb 1000 (length name)) (refuse bad_argument) (map_id image store name)
+named_map image store name = branch (ltb 1000 (length name)) (Err bad_argument) (map_id image store name)

@@ -4,14 +4,14 @@
 --   reported r   the figures as a report
 --   PassedChild  a child that passed, and the figures with its own
 use Prim.Native.Nat.{ℕ, ◌+◌, ◌*◌, ◌^◌, ◌≤◌, ◌<◌, max}
-use Rattle.std.specs.Prelude.{◌≡◌, Bool}
+use Rattle.std.specs.Prelude.{◌≡◌, Bool, Err, Ok}
 use Rattle.std.proofs.Math.Path.{refl, sym}
 use Rattle.std.proofs.Common.{ap, true≢false, mul-le-mul_right, arith}
 use Rattle.std.proofs.Math.Bool.{true, false, cond}
 use borrow.Author.Tests.{eq-eqb, ne_eqb, eqb-true}
 use Rattle.std.proofs.Math.Dec.{eqb}
 use Rattle.refusal.specs.declared.Refusal.{Refusal}
-use Rattle.refusal.specs.Refusal.{Outcome, ok, refuse, bind, unsound}
+use Rattle.refusal.specs.Refusal.{Outcome, bind, unsound}
 use Rattle.tree.specs.Page.{branch}
 use Rattle.tree.specs.Examination.{Report, both, counted}
 use Rattle.tree.proofs.Bounds.{Few}
@@ -44,33 +44,33 @@ module _ (r : Figures) (c : ℕ) where
   pub tally_refused : (o : Outcome Report) (f : Report → Outcome Report) {y : Refusal} → tallied r c (examined_of o) ≡ examined.Refused y
       → examined.Refused y ≡ examined_of (bind (bind o (counted c)) f)
   unfolding tallied examined_of
-  tally_refused (refuse x) f e = sym e
-  tally_refused (ok a) f {y} e = go (eqb a.entries c) e
+  tally_refused (Err x) f e = sym e
+  tally_refused (Ok a) f {y} e = go (eqb a.entries c) e
     where
       go : (t : Bool)
           → cond t (examined.Passed (record { entries = r.entries + a.entries; pages = r.pages + a.pages; depth = max r.depth a.depth }))
           (examined.Refused unsound) ≡ examined.Refused y
-          → examined.Refused y ≡ examined_of (bind (branch t (ok a) (refuse unsound)) f)
+          → examined.Refused y ≡ examined_of (bind (branch t (Ok a) (Err unsound)) f)
       go true q = absurd (true≢false cc)
       go false q = sym q
 
   -- a child that passed, and the figures with its own
   pub record PassedChild (o : Outcome Report) (z : Figures) : Type 0 where
     pub report : Report
-    pub passed : o ≡ ok report
-    pub tested : bind o (counted c) ≡ ok report
+    pub passed : o ≡ Ok report
+    pub tested : bind o (counted c) ≡ Ok report
     pub same : report.entries ≡ c
     pub sum : reported z ≡ both (reported r) report
 
   pub tally_passed : (o : Outcome Report) {z : Figures} → tallied r c (examined_of o) ≡ examined.Passed z → PassedChild o z
   unfolding tallied examined_of
-  tally_passed (refuse x) e = absurd (true≢false cc)
-  tally_passed (ok a) {z} e = go (eqb a.entries c) refl e
+  tally_passed (Err x) e = absurd (true≢false cc)
+  tally_passed (Ok a) {z} e = go (eqb a.entries c) refl e
     where
       go : (t : Bool) → eqb a.entries c ≡ t
           → cond t (examined.Passed (record { entries = r.entries + a.entries; pages = r.pages + a.pages; depth = max r.depth a.depth }))
           (examined.Refused unsound) ≡ examined.Passed z
-          → PassedChild (ok a) z
+          → PassedChild (Ok a) z
       go true q h =
           let sum : Figures = record { entries = r.entries + a.entries; pages = r.pages + a.pages; depth = max r.depth a.depth } in
           let s : sum ≡ z = cc in
@@ -88,10 +88,10 @@ few_pages levels e p h k =
     omega (arith, mul-le-mul_right e l)
 
 pub fits_all : (levels : ℕ) (r : Figures) (o : Outcome Report) → levels < 16 → r.entries < 2 ^ 48 → r.pages ≤ 16 * r.entries + 1 → r.depth ≤ 16
-    → ((a : Report) → o ≡ ok a → (a.entries < 2 ^ 48) × Few levels a) → Fits r (examined_of o)
+    → ((a : Report) → o ≡ Ok a → (a.entries < 2 ^ 48) × Few levels a) → Fits r (examined_of o)
 unfolding examined_of
-fits_all levels r (refuse x) h e p d b = tt
-fits_all levels r (ok a) h e p d b =
+fits_all levels r (Err x) h e p d b = tt
+fits_all levels r (Ok a) h e p d b =
     let k = b a refl in
     let f = few_pages levels a.entries a.pages h k.1.few in
     (omega (arith, k.0), omega (arith, k.0), omega (arith, k.1.shallow))

@@ -2,14 +2,13 @@
 --
 --   FirstBy p a      what the first child or entry a of the page at p says of the leftmost way
 --   NextBy .. l p a  what a, which follows number l at the page at p, says of the way by the numbers
-use Rattle.std.specs.Prelude.{ℕ, zero, suc, ◌+◌, ◌≤◌, ◌<◌, ◌≡◌, Bool, cond, ◌⊎◌, List, [], ◌∷◌, ◌++◌, eqb, ltb, leb, get_or, replicate}
+use Rattle.std.specs.Prelude.{ℕ, zero, suc, ◌+◌, ◌≤◌, ◌<◌, ◌≡◌, Bool, cond, ◌⊎◌, List, [], ◌∷◌, ◌++◌, eqb, ltb, leb, get_or, replicate, None, Ok, Some, slice_get}
 use Rattle.std.proofs.Math.Path.{refl, ap}
 use Rattle.std.proofs.Common.{◌∙◌, inl, inr, ⊎_elim, add-one, arith}
 use Rattle.std.proofs.Math.Bool.{true, false}
-use Rattle.std.proofs.Math.Option.{none, some}
-use Rattle.std.proofs.Math.ListN.{length, get_elem?, take}
+use Rattle.std.proofs.Math.ListN.{length, take}
 use borrow.Author.Tests.{eqb-true, eqb-false, ltb-true, ltb-false, leb-true, leb-false}
-use Rattle.refusal.specs.Refusal.{ok, unsound}
+use Rattle.refusal.specs.Refusal.{unsound}
 use Rattle.position.specs.Position.{of_bits}
 use Rattle.key.specs.declared.Kind.{Kind}
 use Rattle.key.specs.Key.{Key}
@@ -34,7 +33,7 @@ use Rattle.store.specs.Asking.{judged_by}
 use Rattle.store.specs.ReadLaws.{reader_judged, judged_all}
 
 nth_cases : {A : Type 0} (l : List A) (i : ℕ)
-    → ((e : A) × (get_elem? l i ≡ some e) × (i < length l) × (get_or l i e ≡ e)) ⊎ ((get_elem? l i ≡ none) × (length l ≤ i))
+    → ((e : A) × (slice_get l i ≡ Some e) × (i < length l) × (get_or l i e ≡ e)) ⊎ ((slice_get l i ≡ None) × (length l ≤ i))
 nth_cases [] i = inr (refl, omega arith)
 nth_cases (x ∷ l) zero = inl (x, refl, omega arith, refl)
 nth_cases (x ∷ l) (suc i) =
@@ -58,7 +57,7 @@ module _ (image : List ℕ) (store : Store) (map : ℕ) (kind : Kind) where
   FirstBy p (after.Refused r) =
       (pre : List ℕ) (k : ℕ) → length pre + k < 16 → leftmost_at (reader image store map kind) pre k p ≡ stop r
 
-  leaf_first : (p : ℕ) (es : List (Key × Entry)) → reader image store map kind p ≡ ok (leaf es) → FirstBy p (entry_after (get_elem? es 0))
+  leaf_first : (p : ℕ) (es : List (Key × Entry)) → reader image store map kind p ≡ Ok (leaf es) → FirstBy p (entry_after (slice_get es 0))
   leaf_first p [] e = λ pre k room. (
     λ z. leftmost_empty_root (reader image store map kind) pre k p room [] e z refl,
     λ b. leftmost_empty_below (reader image store map kind) pre k p room [] e b refl,
@@ -98,13 +97,13 @@ module _ (image : List ℕ) (store : Store) (map : ℕ) (kind : Kind) where
     NextBy (after.Refused r) = next_at (reader image store map kind) nums past l p ≡ stop r
 
     module _ (room : l < 16) (below : l < length nums) where
-      module _ (es : List (Key × Entry)) (e : reader image store map kind p ≡ ok (leaf es)) (n : ℕ) (few : n < 0x80000000) (whole : length es ≡ n)
+      module _ (es : List (Key × Entry)) (e : reader image store map kind p ≡ Ok (leaf es)) (n : ℕ) (few : n < 0x80000000) (whole : length es ≡ n)
           (end : suc l ≡ length nums) where
         leaf_next : n ≤ get_or nums l 0 → NextBy (after.Refused unsound)
         leaf_next h = at_no_entry (reader image store map kind) nums past l p room es e end (omega arith)
 
         leaf_end : (b : Bool) → leb n (get_or nums l 0) ≡ b
-            → NextBy (cond b (after.Refused unsound) (entry_after (get_elem? es (get_or nums l 0 + 1))))
+            → NextBy (cond b (after.Refused unsound) (entry_after (slice_get es (get_or nums l 0 + 1))))
         leaf_end true h = leaf_next (leb-true n (get_or nums l 0) h)
         leaf_end false h =
             let i = get_or nums l 0 in
@@ -122,7 +121,7 @@ module _ (image : List ℕ) (store : Store) (map : ℕ) (kind : Kind) where
             (λ w. rw w.0 (at_over (reader image store map kind) nums past l p room es e end (omega (arith, w.1))))
             (nth_cases es (suc (get_or nums l 0))))
 
-      module _ (ps ns : List ℕ) (ks : List Key) (e : reader image store map kind p ≡ ok (inner (children_of ps ns ks))) (n : ℕ)
+      module _ (ps ns : List ℕ) (ks : List Key) (e : reader image store map kind p ≡ Ok (inner (children_of ps ns ks))) (n : ℕ)
           (few : n < 0x80000000) (whole : length ks ≡ n) (more : suc l < length nums) where
         inner_at_lem : get_or nums l 0 ≤ n → (b : Bool) → eqb (get_or nums l 0) n ≡ b
             → NextBy (cond b (after.Last (of_bits (get_or ps (get_or nums l 0) 0)))

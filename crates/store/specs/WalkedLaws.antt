@@ -1,12 +1,10 @@
 -- Over a sound map a walk from the fresh state yields the entry list in order, one entry a step, and then Done: `sound_walks`.
 use Prim.Native.Nat.{ℕ, zero, suc, ◌-◌, ◌≤◌}
-use Rattle.std.specs.Prelude.{◌≡◌, refl, true, length, replicate}
+use Rattle.std.specs.Prelude.{◌≡◌, refl, true, length, replicate, Ok, Some}
 use Rattle.std.proofs.Common.{◌∙◌, le-leb}
 use Rattle.std.proofs.Math.Path.{ap}
 use mathlib.Core.List.{List, [], ◌∷◌}
-use Rattle.std.proofs.Math.Option.{some}
 use Rattle.std.proofs.Math.Seq.{take-append_seam, drop-append_seam}
-use Rattle.refusal.specs.Refusal.{ok}
 use Rattle.key.specs.declared.Kind.{Kind}
 use Rattle.key.specs.Key.{Key, compare_keys}
 use Rattle.tree.specs.Asking.{map_entries}
@@ -25,13 +23,13 @@ zeros_replicate zero = refl
 zeros_replicate (suc n) = zeros_replicate n
 
 -- the numbers of a step are those of the state that it leaves
-numbers_leading : (i : ℕ) (is : List ℕ) → suc (length is) ≤ 16 → numbers (leading (i ∷ is)) ≡ some (i ∷ is)
+numbers_leading : (i : ℕ) (is : List ℕ) → suc (length is) ≤ 16 → numbers (leading (i ∷ is)) ≡ Some (i ∷ is)
 unfolding formed
 numbers_leading i is h =
     let rest : List ℕ = replicate (16 - suc (length is)) 0 in
     rw (le-leb (suc (length is)) 16 h, drop-append_seam is rest, take-append_seam is rest, zeros_replicate (16 - suc (length is)))
 
-module _ (image : List ℕ) (store : Store) (map : ℕ) (kind : Kind) (root : ℕ) (found : map_root image store map ≡ ok root) where
+module _ (image : List ℕ) (store : Store) (map : ℕ) (kind : Kind) (root : ℕ) (found : map_root image store map ≡ Ok root) where
   step_fresh : step_in image store map kind fresh ≡ settled fresh (map_next (reader image store map kind) [] root)
   unfolding step_in fresh formed
   step_fresh = ap (λ o. settled fresh (moved_in o (λ p. moved_by (reader image store map kind) p (numbers fresh)))) found

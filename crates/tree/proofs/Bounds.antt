@@ -5,13 +5,12 @@
 --   Bounded root levels r  the same of any page; the root may be an empty leaf, one page more
 --   ReadsBelow bound read  leaves have, and inner pages record, fewer than `bound` entries
 use Prim.Native.Nat.{ℕ, zero, suc, ◌+◌, ◌*◌, ◌<◌, ◌≤◌}
-use Rattle.std.specs.Prelude.{◌≡◌, Bool, true, List, [], ◌∷◌, length}
+use Rattle.std.specs.Prelude.{◌≡◌, Bool, true, List, [], ◌∷◌, length, Err, Ok, Option, Some}
 use Rattle.std.proofs.Math.Path.{refl}
 use Rattle.std.proofs.Math.Bool.{false}
-use Rattle.std.proofs.Math.Option.{Option, some}
 use Rattle.std.proofs.Common.{arith}
-use Rattle.refusal.specs.Refusal.{Outcome, ok, refuse, too_deep}
-use Rattle.order.specs.declared.Order.{Order}
+use Rattle.refusal.specs.Refusal.{Outcome, too_deep}
+use Rattle.std.specs.declared.cmp.Ordering.{Ordering}
 use Rattle.tree.specs.Page.{Children, last, more, Page, leaf, inner, total}
 use Rattle.tree.specs.Examination.{Report, nothing, one_leaf, both, over, examine_children, examine_page, examine}
 use Rattle.tree.specs.Meets.{Filled}
@@ -54,28 +53,28 @@ leaf_bounded levels false [] f = absurd f
 leaf_bounded levels false (e ∷ es) f = record { one = omega arith; rest = record { few = omega arith; shallow = omega arith } }
 
 module _ {K : Type 0} (levels : ℕ) (child : Option K → Option K → ℕ → Outcome Report)
-    (small : (lo hi : Option K) (p : ℕ) (r : Report) → child lo hi p ≡ ok r → Small levels r) where
-  pub children_small : (lo hi : Option K) (cs : Children K) (r : Report) → examine_children child lo hi cs ≡ ok r → Small levels r
+    (small : (lo hi : Option K) (p : ℕ) (r : Report) → child lo hi p ≡ Ok r → Small levels r) where
+  pub children_small : (lo hi : Option K) (cs : Children K) (r : Report) → examine_children child lo hi cs ≡ Ok r → Small levels r
   children_small lo hi (last p c) r e = small lo hi p r (counted_ok (child lo hi p) c r e).0
   children_small lo hi (more p c s cs) r e =
       let h = more_ok child lo hi p c s cs r e in
-      let a = small lo (some s) p h.first h.first_passed in
-      rw h.sum at (both_small levels h.first h.rest a (children_small (some s) hi cs h.rest h.rest_passed))
+      let a = small lo (Some s) p h.first h.first_passed in
+      rw h.sum at (both_small levels h.first h.rest a (children_small (Some s) hi cs h.rest h.rest_passed))
 
-  page_bounded : {W : Type 0} (cmp : K → K → Order) (root : Bool) (lo hi : Option K) (o : Outcome (Page K W)) (r : Report)
-      → examine_page cmp child root lo hi o ≡ ok r → Bounded root (suc levels) r
-  page_bounded cmp root lo hi (refuse x) r e = refuse_ok x r e
-  page_bounded cmp root lo hi (ok (leaf es)) r e =
+  page_bounded : {W : Type 0} (cmp : K → K → Ordering) (root : Bool) (lo hi : Option K) (o : Outcome (Page K W)) (r : Report)
+      → examine_page cmp child root lo hi o ≡ Ok r → Bounded root (suc levels) r
+  page_bounded cmp root lo hi (Err x) r e = refuse_ok x r e
+  page_bounded cmp root lo hi (Ok (leaf es)) r e =
       let h = leaf_ok cmp root lo hi es child r e in
       rw h.sum at (leaf_bounded levels root es (filled_true root es h.full))
-  page_bounded {W} cmp root lo hi (ok (inner cs)) r e =
+  page_bounded {W} cmp root lo hi (Ok (inner cs)) r e =
       let h = inner_ok cmp child lo hi cs W root r e in
       let a = over_small levels h.under (children_small lo hi cs h.under h.under_passed) in
       rw h.sum at (small_bounded root (suc levels) (over h.under) a)
 
-module _ {K W : Type 0} (cmp : K → K → Order) (read : ℕ → Outcome (Page K W)) where
+module _ {K W : Type 0} (cmp : K → K → Ordering) (read : ℕ → Outcome (Page K W)) where
   pub examine_bounded : (levels : ℕ) (root : Bool) (lo hi : Option K) (p : ℕ) (r : Report)
-      → examine cmp read levels root lo hi p ≡ ok r → Bounded root levels r
+      → examine cmp read levels root lo hi p ≡ Ok r → Bounded root levels r
   unfolding examine
   examine_bounded zero root lo hi p r e = refuse_ok too_deep r e
   examine_bounded (suc levels) root lo hi p r e =
@@ -83,30 +82,30 @@ module _ {K W : Type 0} (cmp : K → K → Order) (read : ℕ → Outcome (Page 
 
 -- ## Entries: what is counted is what is recorded, and so as small as the page rules keep that
 pub children_total : {K : Type 0} (child : Option K → Option K → ℕ → Outcome Report) (lo hi : Option K) (cs : Children K) (r : Report)
-    → examine_children child lo hi cs ≡ ok r → r.entries ≡ total cs
+    → examine_children child lo hi cs ≡ Ok r → r.entries ≡ total cs
 children_total child lo hi (last p c) r e = (counted_ok (child lo hi p) c r e).1
 children_total child lo hi (more p c s cs) r e =
     let h = more_ok child lo hi p c s cs r e in
     let sum = same_entries h.sum in
-    omega (arith, sum, h.first_counted, children_total child (some s) hi cs h.rest h.rest_passed)
+    omega (arith, sum, h.first_counted, children_total child (Some s) hi cs h.rest h.rest_passed)
 
 pub record ReadsBelow {K W : Type 0} (bound : ℕ) (read : ℕ → Outcome (Page K W)) : Type 0 where
-  pub leaves : (p : ℕ) (es : List (K × W)) → read p ≡ ok (leaf es) → length es < bound
-  pub inners : (p : ℕ) (cs : Children K) → read p ≡ ok (inner cs) → total cs < bound
+  pub leaves : (p : ℕ) (es : List (K × W)) → read p ≡ Ok (leaf es) → length es < bound
+  pub inners : (p : ℕ) (cs : Children K) → read p ≡ Ok (inner cs) → total cs < bound
 
-module _ {K W : Type 0} (cmp : K → K → Order) (read : ℕ → Outcome (Page K W)) (bound : ℕ) (B : ReadsBelow bound read) where
+module _ {K W : Type 0} (cmp : K → K → Ordering) (read : ℕ → Outcome (Page K W)) (bound : ℕ) (B : ReadsBelow bound read) where
   page_below : (child : Option K → Option K → ℕ → Outcome Report) (root : Bool) (lo hi : Option K) (p : ℕ)
-      (o : Outcome (Page K W)) (r : Report) → read p ≡ o → examine_page cmp child root lo hi o ≡ ok r → r.entries < bound
-  page_below child root lo hi p (refuse x) r i e = refuse_ok x r e
-  page_below child root lo hi p (ok (leaf es)) r i e =
+      (o : Outcome (Page K W)) (r : Report) → read p ≡ o → examine_page cmp child root lo hi o ≡ Ok r → r.entries < bound
+  page_below child root lo hi p (Err x) r i e = refuse_ok x r e
+  page_below child root lo hi p (Ok (leaf es)) r i e =
       let h = leaf_ok cmp root lo hi es child r e in
       omega (arith, B.leaves p es i, same_entries h.sum)
-  page_below child root lo hi p (ok (inner cs)) r i e =
+  page_below child root lo hi p (Ok (inner cs)) r i e =
       let h = inner_ok cmp child lo hi cs W root r e in
       omega (arith, B.inners p cs i, children_total child lo hi cs h.under h.under_passed, same_entries h.sum)
 
   pub examine_below : (levels : ℕ) (root : Bool) (lo hi : Option K) (p : ℕ) (r : Report)
-      → examine cmp read levels root lo hi p ≡ ok r → r.entries < bound
+      → examine cmp read levels root lo hi p ≡ Ok r → r.entries < bound
   unfolding examine
   examine_below zero root lo hi p r e = refuse_ok too_deep r e
   examine_below (suc levels) root lo hi p r e = page_below (examine cmp read levels false) root lo hi p (read p) r refl e

@@ -1,10 +1,9 @@
 -- Laws of an inner page as three lists: X-childrenOf says what X is there, in document 01's words; X-from what a loop that has come
 -- to child number j has still to do.
-use Rattle.std.specs.Prelude.{ℕ, zero, suc, ◌+◌, ◌<◌, max, ◌≡◌, refl, Bool, true, false, List, [], ◌∷◌, length, get_or, drop}
+use Rattle.std.specs.Prelude.{ℕ, zero, suc, ◌+◌, ◌<◌, max, ◌≡◌, refl, Bool, true, false, List, [], ◌∷◌, length, get_or, drop, Err, Ok, Option, Some}
 use Rattle.std.proofs.Common.{◌∙◌, ap, add-zero, le_refl, arith, drop_of_length-le, drop-cons, get_or-drop}
-use Rattle.std.proofs.Math.Option.{Option, some}
-use Rattle.refusal.specs.Refusal.{Outcome, ok, refuse, bind}
-use Rattle.order.specs.declared.Order.{Order}
+use Rattle.refusal.specs.Refusal.{Outcome, bind}
+use Rattle.std.specs.declared.cmp.Ordering.{Ordering}
 use Rattle.order.specs.Order.{below}
 use Rattle.tree.specs.Page.{branch, Children, last, more, separators, total}
 use Rattle.tree.specs.Asking.{child_for}
@@ -35,7 +34,7 @@ module _ {K : Type 0} where
   total_children_of ps (n ∷ ns) (s ∷ ks) h = ap (n +◌) (total_children_of (drop 1 ps) ns ks (omega arith))
 
   -- "take the child numbered by how many leading keys, up to the first greater one, are not greater"
-  pub child_for-children_of : (cmp : K → K → Order) (k : K) (ps ns : List ℕ) (ks : List K)
+  pub child_for-children_of : (cmp : K → K → Ordering) (k : K) (ps ns : List ℕ) (ks : List K)
       → child_for cmp k (children_of ps ns ks) ≡ get_or ps (lead cmp k ks) 0
   child_for-children_of cmp k ps ns [] = refl
   child_for-children_of cmp k ps ns (s ∷ ks) = go (child_for-children_of cmp k (drop 1 ps) (drop 1 ns) ks) (below cmp k s)
@@ -65,20 +64,20 @@ both_assoc a b c =
     λ i. record { entries = e i; pages = p i; depth = d i }
 
 bind_both : (r a : Report) (o : Outcome Report)
-    → bind o (λ b. ok (both (both r a) b)) ≡ bind (bind o (λ b. ok (both a b))) (λ b. ok (both r b))
-bind_both r a (ok b) = ap ok (both_assoc r a b)
-bind_both r a (refuse x) = refl
+    → bind o (λ b. Ok (both (both r a) b)) ≡ bind (bind o (λ b. Ok (both a b))) (λ b. Ok (both r b))
+bind_both r a (Ok b) = ap Ok (both_assoc r a b)
+bind_both r a (Err x) = refl
 
 module _ {K : Type 0} (child : Option K → Option K → ℕ → Outcome Report) where
   pub examine_from_lem : (r : Report) (lo hi : Option K) (cs : Children K)
-      → examine_from child r lo hi cs ≡ bind (examine_children child lo hi cs) (λ a. ok (both r a))
+      → examine_from child r lo hi cs ≡ bind (examine_children child lo hi cs) (λ a. Ok (both r a))
   examine_from_lem r lo hi (last p c) = refl
   examine_from_lem r lo hi (more p c s cs) =
-      go (examine_children child (some s) hi cs) (λ a. examine_from_lem (both r a) (some s) hi cs) (bind (child lo (some s) p) (counted c))
+      go (examine_children child (Some s) hi cs) (λ a. examine_from_lem (both r a) (Some s) hi cs) (bind (child lo (Some s) p) (counted c))
     where
       go : (after : Outcome Report)
-          → ((a : Report) → examine_from child (both r a) (some s) hi cs ≡ bind after (λ b. ok (both (both r a) b)))
-          → (o : Outcome Report) → bind o (λ a. examine_from child (both r a) (some s) hi cs)
-          ≡ bind (bind o (λ a. bind after (λ b. ok (both a b)))) (λ b. ok (both r b))
-      go after ih (ok a) = ih a ∙ bind_both r a after
-      go after ih (refuse x) = refl
+          → ((a : Report) → examine_from child (both r a) (Some s) hi cs ≡ bind after (λ b. Ok (both (both r a) b)))
+          → (o : Outcome Report) → bind o (λ a. examine_from child (both r a) (Some s) hi cs)
+          ≡ bind (bind o (λ a. bind after (λ b. Ok (both a b)))) (λ b. Ok (both r b))
+      go after ih (Ok a) = ih a ∙ bind_both r a after
+      go after ih (Err x) = refl

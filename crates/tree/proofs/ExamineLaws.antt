@@ -1,14 +1,13 @@
 -- The examination against soundness by recursion: what a passed examination tells (`Told`), and that a page that meets the rules,
 -- with keys within its bounds, passes (`Passed`). Each for keys and separators, for the children, for a page, from a page down.
 use Prim.Native.Nat.{ℕ, zero, suc}
-use Rattle.std.specs.Prelude.{◌≡◌, refl, Bool, true, ◌&&◌, length}
+use Rattle.std.specs.Prelude.{◌≡◌, refl, Bool, true, ◌&&◌, length, Err, None, Ok, Option, Some}
 use Rattle.std.proofs.Math.Path.{sym}
 use Rattle.std.proofs.Common.{◌∙◌, arith, length-append}
 use Rattle.std.proofs.Math.Bool.{false, and-eq-true_iff}
-use Rattle.std.proofs.Math.Option.{Option, none, some}
 use mathlib.Core.List.{List, [], ◌∷◌, ◌++◌}
-use Rattle.refusal.specs.Refusal.{Outcome, ok, refuse, too_deep}
-use Rattle.order.specs.declared.Order.{Order}
+use Rattle.refusal.specs.Refusal.{Outcome, too_deep}
+use Rattle.std.specs.declared.cmp.Ordering.{Ordering}
 use Rattle.order.specs.Order.{TotalOrder, Below}
 use Rattle.tree.specs.Page.{Children, last, more, Page, leaf, inner, separators, joined, All}
 use Rattle.tree.specs.Asking.{entries_page, entries}
@@ -24,29 +23,29 @@ use Rattle.tree.proofs.BoundLaws.{within_right}
 use Rattle.tree.proofs.PassedLaws.{same_entries, counted_ok, ok_counted, more_ok, leaf_ok, inner_ok}
 
 -- the report counts the entries es, whose keys lie within the bounds; Fact is what else is told
-pub record Told {K W : Type 0} (cmp : K → K → Order) (Fact : Type 0) (lo hi : Option K) (es : List (K × W)) (r : Report) : Type 0 where
+pub record Told {K W : Type 0} (cmp : K → K → Ordering) (Fact : Type 0) (lo hi : Option K) (es : List (K × W)) (r : Report) : Type 0 where
   pub fact : Fact
   pub within : Within cmp lo hi es
   pub count : r.entries ≡ length es
 
 abbrev pub Passed : {E : Type 0} → List E → Outcome Report → Type 0
-Passed es o = (r : Report) × (o ≡ ok r) × (r.entries ≡ length es)
+Passed es o = (r : Report) × (o ≡ Ok r) × (r.entries ≡ length es)
 
 -- ## Keys and separators
-module _ {K : Type 0} (cmp : K → K → Order) where
+module _ {K : Type 0} (cmp : K → K → Ordering) where
   record Lies (lo hi : Option K) (s : K) (ks : List K) : Type 0 where
     pub above : AboveBound cmp lo s
     pub under : BelowBound cmp hi s
-    pub rest : separators_lie cmp (some s) hi ks ≡ true
+    pub rest : separators_lie cmp (Some s) hi ks ≡ true
 
   separators_tell : (lo hi : Option K) (s : K) (ks : List K) → separators_lie cmp lo hi (s ∷ ks) ≡ true → Lies lo hi s ks
   unfolding separators_lie
   separators_tell lo hi s ks t =
-      let a = (and-eq-true_iff (above_bound cmp lo s && below_bound cmp hi s) (separators_lie cmp (some s) hi ks)).0 t in
+      let a = (and-eq-true_iff (above_bound cmp lo s && below_bound cmp hi s) (separators_lie cmp (Some s) hi ks)).0 t in
       let b = (and-eq-true_iff (above_bound cmp lo s) (below_bound cmp hi s)).0 a.0 in
       record { above = above_true cmp lo s b.0; under = under_true cmp hi s b.1; rest = a.1 }
 
-module _ {K W : Type 0} {cmp : K → K → Order} (L : TotalOrder K cmp) where
+module _ {K W : Type 0} {cmp : K → K → Ordering} (L : TotalOrder K cmp) where
   keys_tell : (lo hi previous : Option K) (es : List (K × W)) → keys_lie cmp lo hi previous es ≡ true
       → All (λ e. AboveBound cmp previous e.0) es × Within cmp lo hi es
   unfolding keys_lie
@@ -54,11 +53,11 @@ module _ {K W : Type 0} {cmp : K → K → Order} (L : TotalOrder K cmp) where
   keys_tell lo hi previous (e ∷ es) t =
       let k = e.0 in
       let between = from_bound cmp lo k && below_bound cmp hi k in
-      let a = (and-eq-true_iff (above_bound cmp previous k && between) (keys_lie cmp lo hi (some k) es)).0 t in
+      let a = (and-eq-true_iff (above_bound cmp previous k && between) (keys_lie cmp lo hi (Some k) es)).0 t in
       let b = (and-eq-true_iff (above_bound cmp previous k) between).0 a.0 in
       let c = (and-eq-true_iff (from_bound cmp lo k) (below_bound cmp hi k)).0 b.1 in
       let above = above_true cmp previous k b.0 in
-      let rest = keys_tell lo hi (some k) es a.1 in (
+      let rest = keys_tell lo hi (Some k) es a.1 in (
         (above, all_imp (λ f h. above_below_above L previous k f.0 above h) es rest.0),
         record {
           rises = (rest.0, rest.1.rises);
@@ -67,17 +66,17 @@ module _ {K W : Type 0} {cmp : K → K → Order} (L : TotalOrder K cmp) where
         },
       )
 
-keys_pass : {K W : Type 0} (cmp : K → K → Order) (lo hi previous : Option K) (es : List (K × W))
+keys_pass : {K W : Type 0} (cmp : K → K → Ordering) (lo hi previous : Option K) (es : List (K × W))
     → All (λ e. AboveBound cmp previous e.0) es → Within cmp lo hi es → keys_lie cmp lo hi previous es ≡ true
 unfolding keys_lie
 keys_pass cmp lo hi previous [] a w = refl
 keys_pass cmp lo hi previous (e ∷ es) a w =
     rw (true_above cmp previous e.0 a.0, true_from cmp lo e.0 w.low.0, true_under cmp hi e.0 w.high.0)
-    (keys_pass cmp lo hi (some e.0) es w.rises.0 (record { rises = w.rises.1; low = w.low.1; high = w.high.1 }))
+    (keys_pass cmp lo hi (Some e.0) es w.rises.0 (record { rises = w.rises.1; low = w.low.1; high = w.high.1 }))
 
 -- a separator lies between the bounds, as there is a key on either side
-separator_passes : {K W : Type 0} {cmp : K → K → Order} (L : TotalOrder K cmp) (lo hi : Option K) (s : K) (a b : List (K × W))
-    → Filled false a → Filled false b → Within cmp lo (some s) a → Within cmp (some s) hi b
+separator_passes : {K W : Type 0} {cmp : K → K → Ordering} (L : TotalOrder K cmp) (lo hi : Option K) (s : K) (a b : List (K × W))
+    → Filled false a → Filled false b → Within cmp lo (Some s) a → Within cmp (Some s) hi b
     → (above_bound cmp lo s ≡ true) × (below_bound cmp hi s ≡ true)
 separator_passes {cmp = cmp} L lo hi s a b f g u v =
     let x = filled_both _ _ a f u.low u.high in
@@ -87,12 +86,12 @@ separator_passes {cmp = cmp} L lo hi s a b f g u v =
     (true_above cmp lo s above, true_under cmp hi s under)
 
 -- ## The children, and a page
-module _ {K W : Type 0} {cmp : K → K → Order} (L : TotalOrder K cmp) (list : ℕ → List (K × W)) (Child : ℕ → Type 0)
+module _ {K W : Type 0} {cmp : K → K → Ordering} (L : TotalOrder K cmp) (list : ℕ → List (K × W)) (Child : ℕ → Type 0)
     (child : Option K → Option K → ℕ → Outcome Report) where
-  module _ (tells : (lo hi : Option K) (p : ℕ) (r : Report) → child lo hi p ≡ ok r → Told cmp (Child p) lo hi (list p) r) where
+  module _ (tells : (lo hi : Option K) (p : ℕ) (r : Report) → child lo hi p ≡ Ok r → Told cmp (Child p) lo hi (list p) r) where
     children_tell : (lo hi : Option K) (left : List (K × W)) (cs : Children K) (r : Report)
         → All (λ e. LeftOfBound cmp lo e.0) left → separators_lie cmp lo hi (separators cs) ≡ true
-        → examine_children child lo hi cs ≡ ok r → Told cmp (MeetsChildren cmp list Child left cs) lo hi (joined list cs) r
+        → examine_children child lo hi cs ≡ Ok r → Told cmp (MeetsChildren cmp list Child left cs) lo hi (joined list cs) r
     children_tell lo hi left (last p c) r l t e =
         let h = counted_ok (child lo hi p) c r e in
         let a = tells lo hi p r h.0 in
@@ -100,10 +99,10 @@ module _ {K W : Type 0} {cmp : K → K → Order} (L : TotalOrder K cmp) (list :
     children_tell lo hi left (more p c s cs) r l t e =
         let lies = separators_tell cmp lo hi s (separators cs) t in
         let h = more_ok child lo hi p c s cs r e in
-        let a = tells lo (some s) p h.first h.first_passed in
+        let a = tells lo (Some s) p h.first h.first_passed in
         let farther = all_imp (λ x k. left_above_below L lo x.0 s k lies.above) left l in
         let before = all_append (λ x. Below cmp x.0 s) left (list p) farther a.within.high in
-        let b = children_tell (some s) hi (left ++ list p) cs h.rest before lies.rest h.rest_passed in
+        let b = children_tell (Some s) hi (left ++ list p) cs h.rest before lies.rest h.rest_passed in
         let sum = same_entries h.sum in
         record {
           fact = ((before, b.within.low, b.fact.0), ((sym h.first_counted ∙ a.count, a.fact), b.fact.1));
@@ -111,14 +110,14 @@ module _ {K W : Type 0} {cmp : K → K → Order} (L : TotalOrder K cmp) (list :
           count = rw length-append (omega (arith, a.count, b.count, sum));
         }
 
-    page_tells : (root : Bool) (lo hi : Option K) (o : Outcome (Page K W)) (r : Report) → examine_page cmp child root lo hi o ≡ ok r
+    page_tells : (root : Bool) (lo hi : Option K) (o : Outcome (Page K W)) (r : Report) → examine_page cmp child root lo hi o ≡ Ok r
         → Told cmp (MeetsPage cmp list Child root o) lo hi (entries_page list o) r
-    page_tells root lo hi (refuse x) r e = refuse_ok x r e
-    page_tells root lo hi (ok (leaf es)) r e =
+    page_tells root lo hi (Err x) r e = refuse_ok x r e
+    page_tells root lo hi (Ok (leaf es)) r e =
         let h = leaf_ok cmp root lo hi es child r e in
         let count = same_entries h.sum in
-        record { fact = filled_true root es h.full; within = (keys_tell L lo hi none es h.lie).1; count = sym count }
-    page_tells root lo hi (ok (inner cs)) r e =
+        record { fact = filled_true root es h.full; within = (keys_tell L lo hi None es h.lie).1; count = sym count }
+    page_tells root lo hi (Ok (inner cs)) r e =
         let h = inner_ok cmp child lo hi cs W root r e in
         let a = children_tell lo hi [] cs h.under tt h.lie h.under_passed in
         let count = same_entries h.sum in
@@ -127,7 +126,7 @@ module _ {K W : Type 0} {cmp : K → K → Order} (L : TotalOrder K cmp) (list :
   module _ (passes : (lo hi : Option K) (p : ℕ) → Child p → Within cmp lo hi (list p) → Passed (list p) (child lo hi p))
       (full : (p : ℕ) → Child p → Filled false (list p)) where
     more_passes : (lo hi : Option K) (p c : ℕ) (s : K) (cs : Children K) → c ≡ length (list p)
-        → Passed (list p) (child lo (some s) p) → Passed (joined list cs) (examine_children child (some s) hi cs)
+        → Passed (list p) (child lo (Some s) p) → Passed (joined list cs) (examine_children child (Some s) hi cs)
         → Passed (list p ++ joined list cs) (examine_children child lo hi (more p c s cs))
     more_passes lo hi p c s cs n a b =
         let count = ok_counted c a.0 (a.2 ∙ sym n) in
@@ -143,25 +142,25 @@ module _ {K W : Type 0} {cmp : K → K → Order} (L : TotalOrder K cmp) (list :
     children_pass lo hi left (more p c s cs) m w =
         let u = within_left cmp lo hi s (list p) (joined list cs) w (all_right _ left (list p) m.0.0) in
         let v = within_right cmp lo hi s (list p) (joined list cs) w m.0.1 in
-        let a = passes lo (some s) p m.1.0.1 u in
-        let b = children_pass (some s) hi (left ++ list p) cs (m.0.2, m.1.1) v in
+        let a = passes lo (Some s) p m.1.0.1 u in
+        let b = children_pass (Some s) hi (left ++ list p) cs (m.0.2, m.1.1) v in
         let after = joined_filled list Child full cs m.1.1 in
         let lies = separator_passes L lo hi s (list p) (joined list cs) (full p m.1.0.1) after u v in
         (more_passes lo hi p c s cs m.1.0.0 a b.0, rw (lies.0, lies.1) b.1)
 
     page_passes : (root : Bool) (lo hi : Option K) (o : Outcome (Page K W)) → MeetsPage cmp list Child root o
         → Within cmp lo hi (entries_page list o) → Passed (entries_page list o) (examine_page cmp child root lo hi o)
-    page_passes root lo hi (refuse x) m w = absurd m
-    page_passes root lo hi (ok (leaf es)) m w =
-        let lie = keys_pass cmp lo hi none es (all_always (λ e. Unit {0}) (λ e. tt) es) w in
+    page_passes root lo hi (Err x) m w = absurd m
+    page_passes root lo hi (Ok (leaf es)) m w =
+        let lie = keys_pass cmp lo hi None es (all_always (λ e. Unit {0}) (λ e. tt) es) w in
         (one_leaf (length es), rw (true_filled root es m, lie), refl)
-    page_passes root lo hi (ok (inner cs)) m w =
+    page_passes root lo hi (Ok (inner cs)) m w =
         let h = children_pass lo hi [] cs m w in
         (over h.0.0, rw (h.1, h.0.1), h.0.2)
 
 -- ## From a page down
-module _ {K W : Type 0} {cmp : K → K → Order} (L : TotalOrder K cmp) (read : ℕ → Outcome (Page K W)) where
-  pub examine_tells : (levels : ℕ) (root : Bool) (lo hi : Option K) (p : ℕ) (r : Report) → examine cmp read levels root lo hi p ≡ ok r
+module _ {K W : Type 0} {cmp : K → K → Ordering} (L : TotalOrder K cmp) (read : ℕ → Outcome (Page K W)) where
+  pub examine_tells : (levels : ℕ) (root : Bool) (lo hi : Option K) (p : ℕ) (r : Report) → examine cmp read levels root lo hi p ≡ Ok r
       → Told cmp (Meets cmp read levels root p) lo hi (entries read levels p) r
   unfolding examine Meets entries
   examine_tells zero root lo hi p r e = refuse_ok too_deep r e

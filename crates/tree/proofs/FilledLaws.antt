@@ -1,9 +1,9 @@
 -- Below the root no page's entry list is empty.
 use Prim.Native.Nat.{ℕ, zero, suc}
-use Rattle.std.specs.Prelude.{◌≡◌, refl, Bool, true, false, List, [], ◌∷◌, ◌++◌, length}
+use Rattle.std.specs.Prelude.{◌≡◌, refl, Bool, true, false, List, [], ◌∷◌, ◌++◌, length, Err, Ok}
 use Rattle.std.proofs.Common.{arith}
-use Rattle.refusal.specs.Refusal.{Outcome, ok, refuse}
-use Rattle.order.specs.declared.Order.{Order}
+use Rattle.refusal.specs.Refusal.{Outcome}
+use Rattle.std.specs.declared.cmp.Ordering.{Ordering}
 use Rattle.tree.specs.Page.{Children, last, more, Page, leaf, inner, joined, All, AllChildren}
 use Rattle.tree.specs.Asking.{entries_page, entries}
 use Rattle.tree.specs.Examination.{filled}
@@ -36,12 +36,12 @@ module _ {E : Type 0} where
   joined_filled list Child full (last p c) m = full p m.1
   joined_filled list Child full (more p c s cs) m = filled_append (list p) (joined list cs) (full p m.0.1)
 
-module _ {K W : Type 0} (cmp : K → K → Order) where
+module _ {K W : Type 0} (cmp : K → K → Ordering) where
   page_filled : (list : ℕ → List (K × W)) (Child : ℕ → Type 0) → ((p : ℕ) → Child p → Filled false (list p))
       → (o : Outcome (Page K W)) → MeetsPage cmp list Child false o → Filled false (entries_page list o)
-  page_filled list Child full (refuse x) m = absurd m
-  page_filled list Child full (ok (leaf es)) m = m
-  page_filled list Child full (ok (inner cs)) m = joined_filled list Child full cs m.1
+  page_filled list Child full (Err x) m = absurd m
+  page_filled list Child full (Ok (leaf es)) m = m
+  page_filled list Child full (Ok (inner cs)) m = joined_filled list Child full cs m.1
 
   pub meets_filled : (read : ℕ → Outcome (Page K W)) (levels p : ℕ) → Meets cmp read levels false p → Filled false (entries read levels p)
   unfolding Meets entries

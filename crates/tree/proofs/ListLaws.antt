@@ -2,13 +2,11 @@
 --
 --   all-X, children-X  All of a list, AllChildren of children
 --   nth-X              entry number i
-use Rattle.std.specs.Prelude.{ℕ, zero, suc, ◌-◌, ◌<◌, ◌≤◌, ◌≡◌, refl, length}
+use Rattle.std.specs.Prelude.{ℕ, zero, suc, ◌-◌, ◌<◌, ◌≤◌, ◌≡◌, refl, length, Err, Ok, Some, slice_get}
 use Rattle.std.proofs.Common.{sym, subst, inl, inr, arith, length-append}
-use Rattle.std.proofs.Math.Option.{some}
 use mathlib.Core.List.{List, [], ◌∷◌, ◌++◌, Memᴰ}
 use Rattle.std.proofs.Math.Nat.{sub-zero, suc-sub-suc}
-use Rattle.std.proofs.Math.ListN.{get_elem?}
-use Rattle.refusal.specs.Refusal.{ok, refuse, bad_index}
+use Rattle.refusal.specs.Refusal.{bad_index}
 use Rattle.tree.specs.Page.{Children, last, more, total, joined, nth, All, AllChildren}
 use Rattle.tree.specs.Sound.{IsChild}
 
@@ -72,12 +70,12 @@ module _ {E : Type 0} where
   nth_right zero (x ∷ a) b h = absurd (omega arith)
   nth_right (suc i) (x ∷ a) b h = rw suc-sub-suc (nth_right i a b (omega arith))
 
-  pub nth_beyond : (i : ℕ) (a : List E) → length a ≤ i → nth i a ≡ refuse bad_index
+  pub nth_beyond : (i : ℕ) (a : List E) → length a ≤ i → nth i a ≡ Err bad_index
   nth_beyond i [] h = refl
   nth_beyond zero (x ∷ a) h = absurd (omega arith)
   nth_beyond (suc i) (x ∷ a) h = nth_beyond i a (omega arith)
 
-  pub nth_element : (i : ℕ) (a : List E) → i < length a → (e : E) × (get_elem? a i ≡ some e) × (nth i a ≡ ok e)
+  pub nth_element : (i : ℕ) (a : List E) → i < length a → (e : E) × (slice_get a i ≡ Some e) × (nth i a ≡ Ok e)
   nth_element i [] h = absurd (omega arith)
   nth_element zero (x ∷ a) h = (x, refl, refl)
   nth_element (suc i) (x ∷ a) h = nth_element i a (omega arith)

@@ -15,17 +15,16 @@
 --   at-X                the loop that follows the numbers; next_top where it starts
 --   map-X               a step of a map, by its root and whether the state is fresh: which loop it starts
 use Prim.Native.Nat.{ℕ, zero, suc, ◌+◌, ◌-◌, ◌<◌, ◌≤◌}
-use Rattle.std.specs.Prelude.{◌≡◌, take, drop}
+use Rattle.std.specs.Prelude.{◌≡◌, take, drop, Err, None, Ok, Some, slice_get}
 use Rattle.std.proofs.Math.Path.{refl, sym}
 use Rattle.std.proofs.Common.{◌∙◌, ap, length-append, drop_of_length-le, take-suc, length-take-le}
-use Rattle.std.proofs.Math.Option.{none, some}
 use mathlib.Core.List.{List, [], ◌∷◌, ◌++◌, append_assoc, append-nil}
 use Rattle.std.proofs.Math.Nat.{add-zero}
 use native.Mathlib.Omega.{arith}
-use Rattle.std.proofs.Math.ListN.{length, get_or, get_elem?, replicate}
+use Rattle.std.proofs.Math.ListN.{length, get_or, replicate}
 use Rattle.std.proofs.Math.Seq.{drop-cons}
 use Rattle.refusal.specs.declared.Refusal.{Refusal}
-use Rattle.refusal.specs.Refusal.{Outcome, ok, refuse, too_deep, unsound}
+use Rattle.refusal.specs.Refusal.{Outcome, too_deep, unsound}
 use Rattle.tree.specs.Page.{Children, Page, leaf, inner}
 use Rattle.tree.specs.InnerPage.{children_of}
 use Rattle.tree.proofs.ListLaws.{nth_element}
@@ -34,13 +33,13 @@ use Rattle.tree.specs.Walk.{Moved, yield, over, stop, child_at, first_child, lef
 
 -- ## Children and elements by number
 module _ {K : Type 0} where
-  pub child_some : (i : ℕ) (ps ns : List ℕ) (ks : List K) → i ≤ length ks → child_at i (children_of ps ns ks) ≡ some (get_or ps i 0)
+  pub child_some : (i : ℕ) (ps ns : List ℕ) (ks : List K) → i ≤ length ks → child_at i (children_of ps ns ks) ≡ Some (get_or ps i 0)
   child_some zero ps ns [] h = refl
   child_some zero ps ns (s ∷ ks) h = refl
   child_some (suc i) ps ns [] h = absurd (omega arith)
-  child_some (suc i) ps ns (s ∷ ks) h = child_some i (drop 1 ps) (drop 1 ns) ks (omega arith) ∙ ap some (get_or_tail ps i)
+  child_some (suc i) ps ns (s ∷ ks) h = child_some i (drop 1 ps) (drop 1 ns) ks (omega arith) ∙ ap Some (get_or_tail ps i)
 
-  pub child_none : (i : ℕ) (ps ns : List ℕ) (ks : List K) → length ks < i → child_at i (children_of ps ns ks) ≡ none
+  pub child_none : (i : ℕ) (ps ns : List ℕ) (ks : List K) → length ks < i → child_at i (children_of ps ns ks) ≡ None
   child_none zero ps ns ks h = absurd (omega arith)
   child_none (suc i) ps ns [] h = refl
   child_none (suc i) ps ns (s ∷ ks) h = child_none i (drop 1 ps) (drop 1 ns) ks (omega arith)
@@ -50,12 +49,12 @@ module _ {K : Type 0} where
   first_child_lem ps ns (s ∷ ks) = refl
 
 module _ {A : Type 0} where
-  pub element_some : (i : ℕ) (l : List A) (d : A) → i < length l → get_elem? l i ≡ some (get_or l i d)
+  pub element_some : (i : ℕ) (l : List A) (d : A) → i < length l → slice_get l i ≡ Some (get_or l i d)
   element_some i [] d h = absurd (omega arith)
   element_some zero (x ∷ l) d h = refl
   element_some (suc i) (x ∷ l) d h = element_some i l d (omega arith)
 
-  pub element_none : (i : ℕ) (l : List A) → length l ≤ i → get_elem? l i ≡ none
+  pub element_none : (i : ℕ) (l : List A) → length l ≤ i → slice_get l i ≡ None
   element_none i [] h = refl
   element_none zero (x ∷ l) h = absurd (omega arith)
   element_none (suc i) (x ∷ l) h = element_none i l (omega arith)
@@ -90,13 +89,13 @@ module _ {E : Type 0} where
 
   module _ (pre : List ℕ) (past : Moved E) (first : ℕ → Moved E) (i : ℕ) where
     -- in the last child
-    through_last : (m : Moved E) → through pre past (next_over first i none m) ≡ through (pre ++ (i ∷ [])) past m
+    through_last : (m : Moved E) → through pre past (next_over first i None m) ≡ through (pre ++ (i ∷ [])) past m
     through_last (yield e j is) = prefixed_longer pre e i j is
     through_last over = refl
     through_last (stop r) = refl
 
     -- in a child with another, at q, after it: past its end, the leftmost entry of that one
-    through_more : (q : ℕ) (m : Moved E) → through pre past (next_over first i (some q) m)
+    through_more : (q : ℕ) (m : Moved E) → through pre past (next_over first i (Some q) m)
         ≡ through (pre ++ (i ∷ [])) (through (pre ++ (suc i ∷ [])) (stop unsound) (first q)) m
     through_more q (yield e j is) = prefixed_longer pre e i j is
     through_more q over = through_leftmost pre past (suc i) (first q)
@@ -148,11 +147,11 @@ module _ {K W : Type 0} (read : ℕ → Outcome (Page K W)) where
       levels : 16 - (length pre + k) ≡ suc (15 - (length pre + k))
       levels = omega arith
 
-      pub leftmost_refused : (r : Refusal) → read p ≡ refuse r → leftmost_at pre k p ≡ stop r
+      pub leftmost_refused : (r : Refusal) → read p ≡ Err r → leftmost_at pre k p ≡ stop r
       unfolding leftmost_at first
       leftmost_refused r e = rw (levels, e)
 
-      module _ (es : List (K × W)) (e : read p ≡ ok (leaf es)) where
+      module _ (es : List (K × W)) (e : read p ≡ Ok (leaf es)) where
         leftmost_empty : length es ≡ 0 → leftmost_at pre k p ≡ empty_leaf (length pre + k)
         unfolding leftmost_at first
         leftmost_empty h = rw (levels, e, element_none 0 es (omega arith))
@@ -169,7 +168,7 @@ module _ {K W : Type 0} (read : ℕ → Outcome (Page K W)) where
         unfolding leftmost_at first
         leftmost_entry x h = rw (levels, e, element_some 0 es x h)
 
-      pub leftmost_inner : (cs : Children K) → read p ≡ ok (inner cs) → leftmost_at pre k p ≡ leftmost_at pre (suc k) (first_child cs)
+      pub leftmost_inner : (cs : Children K) → read p ≡ Ok (inner cs) → leftmost_at pre k p ≡ leftmost_at pre (suc k) (first_child cs)
       unfolding leftmost_at first
       leftmost_inner cs e =
           let deeper : length pre + suc k ≡ suc (length pre + k) = omega arith in
@@ -195,11 +194,11 @@ module _ {K W : Type 0} (read : ℕ → Outcome (Page K W)) where
       last_number : suc l ≡ length nums → drop (suc l) nums ≡ []
       last_number h = drop_of_length-le nums {i = suc l} (omega arith)
 
-      pub at_refused : (r : Refusal) → read p ≡ refuse r → next_at past l p ≡ stop r
+      pub at_refused : (r : Refusal) → read p ≡ Err r → next_at past l p ≡ stop r
       unfolding next_at next
       at_refused r e = rw (left, e)
 
-      module _ (es : List (K × W)) (e : read p ≡ ok (leaf es)) where
+      module _ (es : List (K × W)) (e : read p ≡ Ok (leaf es)) where
         -- a leaf takes the last number
         pub at_too_deep : suc l < length nums → next_at past l p ≡ stop unsound
         unfolding next_at next
@@ -224,14 +223,14 @@ module _ {K W : Type 0} (read : ℕ → Outcome (Page K W)) where
               let i = get_or nums l 0 in
               rw (left, last_number end, e, (nth_element i es (omega arith)).1, element_none (suc i) es (omega arith))
 
-      module _ (cs : Children K) (e : read p ≡ ok (inner cs)) where
+      module _ (cs : Children K) (e : read p ≡ Ok (inner cs)) where
         -- an inner page takes a number that is not the last
         pub at_too_high : suc l ≡ length nums → next_at past l p ≡ stop unsound
         unfolding next_at next
         at_too_high end = rw (left, last_number end, e)
 
         module _ (more : suc l < length nums) where
-          pub at_no_child : child_at (get_or nums l 0) cs ≡ none → next_at past l p ≡ stop unsound
+          pub at_no_child : child_at (get_or nums l 0) cs ≡ None → next_at past l p ≡ stop unsound
           unfolding next_at next
           at_no_child h = rw (left, drop-cons nums (suc l) 0 more, e, h)
 
@@ -241,7 +240,7 @@ module _ {K W : Type 0} (read : ℕ → Outcome (Page K W)) where
           deeper : 15 - l ≡ 16 - suc l
           deeper = omega arith
 
-          pub at_last_child : (q : ℕ) → child_at (get_or nums l 0) cs ≡ some q → child_at (suc (get_or nums l 0)) cs ≡ none
+          pub at_last_child : (q : ℕ) → child_at (get_or nums l 0) cs ≡ Some q → child_at (suc (get_or nums l 0)) cs ≡ None
               → next_at past l p ≡ next_at past (suc l) q
           unfolding next_at next
           at_last_child q h k =
@@ -250,7 +249,7 @@ module _ {K W : Type 0} (read : ℕ → Outcome (Page K W)) where
               (through_last (take l nums) past (first read (15 - l)) (get_or nums l 0) (below q) ∙ rw (used, deeper))
 
           -- past the end of this child, the leftmost entry of the child after it
-          pub at_child : (q after : ℕ) → child_at (get_or nums l 0) cs ≡ some q → child_at (suc (get_or nums l 0)) cs ≡ some after
+          pub at_child : (q after : ℕ) → child_at (get_or nums l 0) cs ≡ Some q → child_at (suc (get_or nums l 0)) cs ≡ Some after
               → next_at past l p ≡ next_at (leftmost_at (raised nums l) 0 after) (suc l) q
           unfolding next_at next leftmost_at
           at_child q after h k =

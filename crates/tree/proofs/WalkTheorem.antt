@@ -10,15 +10,13 @@
 --   Runs follow m es          m, and then each time what `follow` says of the last entry's numbers, are the entries es, then no more
 --   Walked first next list q  so it is of the page at q and its entry list, which is not empty
 use Prim.Native.Nat.{ℕ, zero, suc, ◌+◌, ◌≤◌}
-use Rattle.std.specs.Prelude.{◌≡◌, Bool, length}
+use Rattle.std.specs.Prelude.{◌≡◌, Bool, length, Err, None, Ok, Option, Some, slice_get}
 use Rattle.std.proofs.Math.Path.{refl, ap}
 use Rattle.std.proofs.Common.{sym, ◌∙◌, arith}
 use Rattle.std.proofs.Math.Bool.{true, false}
-use Rattle.std.proofs.Math.Option.{Option, none, some}
 use mathlib.Core.List.{List, [], ◌∷◌, ◌++◌, append-nil}
-use Rattle.std.proofs.Math.ListN.{get_elem?}
-use Rattle.refusal.specs.Refusal.{Outcome, ok, refuse}
-use Rattle.order.specs.declared.Order.{Order}
+use Rattle.refusal.specs.Refusal.{Outcome}
+use Rattle.std.specs.declared.cmp.Ordering.{Ordering}
 use Rattle.tree.specs.Page.{Children, last, more, Page, leaf, inner, joined, AllChildren}
 use Rattle.tree.specs.Asking.{entries_page, entries, map_entries}
 use Rattle.tree.specs.Sound.{Sound}
@@ -43,12 +41,12 @@ Walked first next list q = Runs (λ i is. next i is q) (first q) (list q) × Fil
 
 -- the entries of a leaf from number i on
 module _ {E : Type 0} (follow : ℕ → List ℕ → Moved E) (es : List E)
-    (leaf_next : (i : ℕ) → follow i [] ≡ after_entry (get_elem? es i) (entry_at (suc i) (get_elem? es (suc i)))) where
-  leaf_runs : (i : ℕ) (ts : List E) → ((j k : ℕ) → k ≡ i + j → get_elem? es k ≡ get_elem? ts j) → Runs follow (entry_at i (get_elem? es i)) ts
+    (leaf_next : (i : ℕ) → follow i [] ≡ after_entry (slice_get es i) (entry_at (suc i) (slice_get es (suc i)))) where
+  leaf_runs : (i : ℕ) (ts : List E) → ((j k : ℕ) → k ≡ i + j → slice_get es k ≡ slice_get ts j) → Runs follow (entry_at i (slice_get es i)) ts
   leaf_runs i [] h = ap (entry_at i) (h 0 i (omega arith))
   leaf_runs i (t ∷ ts) h =
-      let e : get_elem? es i ≡ some t = h 0 i (omega arith) in
-      let then : follow i [] ≡ entry_at (suc i) (get_elem? es (suc i)) = leaf_next i ∙ rw e in
+      let e : slice_get es i ≡ Some t = h 0 i (omega arith) in
+      let then : follow i [] ≡ entry_at (suc i) (slice_get es (suc i)) = leaf_next i ∙ rw e in
       (i, [], ap (entry_at i) e, runs_same follow ts then (leaf_runs (suc i) ts (λ j k w. h (suc j) k (omega arith))))
 
 -- the entries of child number i, and then what comes after them
@@ -69,7 +67,7 @@ module _ {E : Type 0} (follow below : ℕ → List ℕ → Moved E) (first : ℕ
 module _ {K E : Type 0} (follow : ℕ → List ℕ → Moved E) (first : ℕ → Moved E) (next : ℕ → List ℕ → ℕ → Moved E) (list : ℕ → List E)
     (cs : Children K)
     (inner_next : (i j : ℕ) (is : List ℕ) → follow i (j ∷ is) ≡ next_in first (next j is) i (child_at i cs) (child_at (suc i) cs)) where
-  one_runs : (i q : ℕ) (rest : List E) → child_at i cs ≡ some q → Walked first next list q
+  one_runs : (i q : ℕ) (rest : List E) → child_at i cs ≡ Some q → Walked first next list q
       → Runs follow (next_over first i (child_at (suc i) cs) over) rest → Runs follow (leftmost_in i (first q)) (list q ++ rest)
   one_runs i q rest e c r =
       let below : ℕ → List ℕ → Moved E = λ j is. next j is q in
@@ -82,20 +80,20 @@ module _ {K E : Type 0} (follow : ℕ → List ℕ → Moved E) (first : ℕ →
       → AllChildren (λ q c. Walked first next list q) ts
       → Runs follow (leftmost_in i (first (first_child ts))) (joined list ts)
   children_runs i (last p c) h a =
-      let end : child_at (suc i) cs ≡ none = h 1 (suc i) (omega arith) in
+      let end : child_at (suc i) cs ≡ None = h 1 (suc i) (omega arith) in
       rw (sym (append-nil (list p))) (one_runs i p [] (h 0 i (omega arith)) a (ap (λ o. next_over first i o over) end))
   children_runs i (more p c s ts) h a =
-      let then : child_at (suc i) cs ≡ some (first_child ts) = h 1 (suc i) (omega arith) ∙ child_first ts in
+      let then : child_at (suc i) cs ≡ Some (first_child ts) = h 1 (suc i) (omega arith) ∙ child_first ts in
       let rest = children_runs (suc i) ts (λ j k w. h (suc j) k (omega arith)) a.1 in
       one_runs i p (joined list ts) (h 0 i (omega arith)) a.0
       (runs_same follow (joined list ts) (ap (λ o. next_over first i o over) then) rest)
     where
-      child_first : (ts : Children K) → child_at 0 ts ≡ some (first_child ts)
+      child_first : (ts : Children K) → child_at 0 ts ≡ Some (first_child ts)
       child_first (last p c) = refl
       child_first (more p c s ts) = refl
 
 -- ## From a page down
-module _ {K W : Type 0} (cmp : K → K → Order) (read : ℕ → Outcome (Page K W)) where
+module _ {K W : Type 0} (cmp : K → K → Ordering) (read : ℕ → Outcome (Page K W)) where
   meets_runs : (levels : ℕ) (root : Bool) (p : ℕ) → Meets cmp read levels root p
       → Runs (λ i is. next read levels i is p) (first read levels p) (entries read levels p)
   unfolding Meets entries first next
@@ -106,12 +104,12 @@ module _ {K W : Type 0} (cmp : K → K → Order) (read : ℕ → Outcome (Page 
           → (o : Outcome (Page K W)) → MeetsPage cmp (entries read levels) (Meets cmp read levels false) root o
           → Runs (λ i is. next_page (first read levels) (next read levels) i is o) (first_page (first read levels) o)
           (entries_page (entries read levels) o)
-      go ih (refuse x) m = absurd m
-      go ih (ok (leaf es)) m =
-          leaf_runs (λ i is. next_page (first read levels) (next read levels) i is (ok (leaf es))) es (λ i. refl) 0 es
-          (λ j k w. let same : k ≡ j = omega (arith, w) in ap (get_elem? es) same)
-      go ih (ok (inner cs)) m =
-          children_runs (λ i is. next_page (first read levels) (next read levels) i is (ok (inner cs))) (first read levels)
+      go ih (Err x) m = absurd m
+      go ih (Ok (leaf es)) m =
+          leaf_runs (λ i is. next_page (first read levels) (next read levels) i is (Ok (leaf es))) es (λ i. refl) 0 es
+          (λ j k w. let same : k ≡ j = omega (arith, w) in ap (slice_get es) same)
+      go ih (Ok (inner cs)) m =
+          children_runs (λ i is. next_page (first read levels) (next read levels) i is (Ok (inner cs))) (first read levels)
           (next read levels) (entries read levels) cs (λ i j is. refl) 0 cs
           (λ j k w. let same : k ≡ j = omega (arith, w) in ap (λ x. child_at x cs) same)
           (children_imp (λ q c h. ih q h.1) cs m.1)
@@ -123,7 +121,7 @@ module _ {K W : Type 0} (read : ℕ → Outcome (Page K W)) where
   runs_yields p m [] r = r
   runs_yields p m (e ∷ es) r = (r.0, r.1, r.2, runs_yields p (next read 16 r.0 r.1 (suc p)) es r.3)
 
-module _ {K W : Type 0} (cmp : K → K → Order) (read : ℕ → Outcome (Page K W)) where
+module _ {K W : Type 0} (cmp : K → K → Ordering) (read : ℕ → Outcome (Page K W)) where
   pub sound_yields : (root : ℕ) → Sound cmp read root → Yields read root (map_next read [] root) (map_entries read root)
   unfolding MeetsMap map_entries map_next
   sound_yields zero s = refl
@@ -142,12 +140,12 @@ Fits m = FitsIn 16 m
 
 module _ {E : Type 0} (n : ℕ) where
   entry_fits : (i : ℕ) (o : Option E) → FitsIn (suc n) (entry_at i o)
-  entry_fits i none = tt
-  entry_fits i (some e) = omega arith
+  entry_fits i None = tt
+  entry_fits i (Some e) = omega arith
 
   after_fits : (o after : Option E) (i : ℕ) → FitsIn (suc n) (after_entry o (entry_at i after))
-  after_fits none after i = tt
-  after_fits (some e) after i = entry_fits i after
+  after_fits None after i = tt
+  after_fits (Some e) after i = entry_fits i after
 
   leftmost_fits : (i : ℕ) (m : Moved E) → FitsIn n m → FitsIn (suc n) (leftmost_in i m)
   leftmost_fits i (yield e j is) h = omega arith
@@ -160,13 +158,13 @@ module _ {E : Type 0} (n : ℕ) where
     over_fits over h = go after
       where
         go : (after : Option ℕ) → FitsIn (suc n) (next_over first i after over)
-        go none = tt
-        go (some q) = leftmost_fits (suc i) (first q) (first_fits q)
+        go None = tt
+        go (Some q) = leftmost_fits (suc i) (first q) (first_fits q)
     over_fits (stop r) h = tt
 
     in_fits : (next : ℕ → Moved E) (o : Option ℕ) → ((q : ℕ) → FitsIn n (next q)) → FitsIn (suc n) (next_in first next i o after)
-    in_fits next none h = tt
-    in_fits next (some q) h = over_fits (next q) (h q)
+    in_fits next None h = tt
+    in_fits next (Some q) h = over_fits (next q) (h q)
 
 module _ {K W : Type 0} (read : ℕ → Outcome (Page K W)) where
   first_fits : (levels p : ℕ) → FitsIn levels (first read levels p)
@@ -176,9 +174,9 @@ module _ {K W : Type 0} (read : ℕ → Outcome (Page K W)) where
     where
       go : ((q : ℕ) → FitsIn levels (first read levels q)) → (o : Outcome (Page K W))
           → FitsIn (suc levels) (first_page (first read levels) o)
-      go ih (refuse r) = tt
-      go ih (ok (leaf es)) = entry_fits levels 0 (get_elem? es 0)
-      go ih (ok (inner cs)) = leftmost_fits levels 0 (first read levels (first_child cs)) (ih (first_child cs))
+      go ih (Err r) = tt
+      go ih (Ok (leaf es)) = entry_fits levels 0 (slice_get es 0)
+      go ih (Ok (inner cs)) = leftmost_fits levels 0 (first read levels (first_child cs)) (ih (first_child cs))
 
   follow_fits : (levels i : ℕ) (is : List ℕ) (p : ℕ) → FitsIn levels (next read levels i is p)
   unfolding next
@@ -187,11 +185,11 @@ module _ {K W : Type 0} (read : ℕ → Outcome (Page K W)) where
     where
       go : ((j : ℕ) (js : List ℕ) (q : ℕ) → FitsIn levels (next read levels j js q)) → (is : List ℕ) (o : Outcome (Page K W))
           → FitsIn (suc levels) (next_page (first read levels) (next read levels) i is o)
-      go ih is (refuse r) = tt
-      go ih [] (ok (leaf es)) = after_fits levels (get_elem? es i) (get_elem? es (suc i)) (suc i)
-      go ih (j ∷ is) (ok (leaf es)) = tt
-      go ih [] (ok (inner cs)) = tt
-      go ih (j ∷ is) (ok (inner cs)) =
+      go ih is (Err r) = tt
+      go ih [] (Ok (leaf es)) = after_fits levels (slice_get es i) (slice_get es (suc i)) (suc i)
+      go ih (j ∷ is) (Ok (leaf es)) = tt
+      go ih [] (Ok (inner cs)) = tt
+      go ih (j ∷ is) (Ok (inner cs)) =
           in_fits levels (first read levels) (first_fits levels) i (child_at (suc i) cs) (next read levels j is) (child_at i cs) (ih j is)
 
   pub next_fits : (nums : List ℕ) (root : ℕ) → Fits (map_next read nums root)

@@ -2,25 +2,23 @@
 --
 --   Passes cmp read root   "The examination passes a map if it doesn't refuse."
 --   Answers cmp read root  lookup of any key, every index and the count agree with the entry list
-use Rattle.std.specs.Prelude.{ℕ, ◌<◌, ◌≤◌, ◌≡◌, length}
-use Rattle.std.proofs.Math.Option.{Option, none, some}
+use Rattle.std.specs.Prelude.{ℕ, ◌<◌, ◌≤◌, ◌≡◌, length, Err, None, Ok, Option, Some, slice_get}
 use mathlib.Core.List.{Memᴰ}
-use Rattle.std.proofs.Math.ListN.{get_elem?}
-use Rattle.refusal.specs.Refusal.{Outcome, ok, refuse, bad_index}
-use Rattle.order.specs.declared.Order.{Order}
+use Rattle.refusal.specs.Refusal.{Outcome, bad_index}
+use Rattle.std.specs.declared.cmp.Ordering.{Ordering}
 use Rattle.tree.specs.Page.{Page}
 use Rattle.tree.specs.Asking.{map_lookup, map_index, map_count, map_entries}
 use Rattle.tree.specs.Examination.{Report, map_examine}
 
-module _ {K W : Type 0} (cmp : K → K → Order) (read : ℕ → Outcome (Page K W)) (root : ℕ) where
+module _ {K W : Type 0} (cmp : K → K → Ordering) (read : ℕ → Outcome (Page K W)) (root : ℕ) where
   abbrev pub Passes : Type 0
-  Passes = (a : Report) × (map_examine cmp read root ≡ ok a)
+  Passes = (a : Report) × (map_examine cmp read root ≡ Ok a)
 
   pub record Answers : Type 0 where
-    pub answered : (k : K) → (o : Option W) × (map_lookup cmp read k root ≡ ok o)
-    pub present : (k : K) (w : W) → Memᴰ (k, w) (map_entries read root) → map_lookup cmp read k root ≡ ok (some w)
-    pub absent : (k : K) → ((w : W) → Memᴰ (k, w) (map_entries read root) → ⊥) → map_lookup cmp read k root ≡ ok none
+    pub answered : (k : K) → (o : Option W) × (map_lookup cmp read k root ≡ Ok o)
+    pub present : (k : K) (w : W) → Memᴰ (k, w) (map_entries read root) → map_lookup cmp read k root ≡ Ok (Some w)
+    pub absent : (k : K) → ((w : W) → Memᴰ (k, w) (map_entries read root) → ⊥) → map_lookup cmp read k root ≡ Ok None
     pub indexed : (i : ℕ) → i < length (map_entries read root)
-        → (e : K × W) × (get_elem? (map_entries read root) i ≡ some e) × (map_index read i root ≡ ok e)
-    pub beyond : (i : ℕ) → length (map_entries read root) ≤ i → map_index read i root ≡ refuse bad_index
-    pub number : map_count read root ≡ ok (length (map_entries read root))
+        → (e : K × W) × (slice_get (map_entries read root) i ≡ Some e) × (map_index read i root ≡ Ok e)
+    pub beyond : (i : ℕ) → length (map_entries read root) ≤ i → map_index read i root ≡ Err bad_index
+    pub number : map_count read root ≡ Ok (length (map_entries read root))

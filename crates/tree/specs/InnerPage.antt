@@ -6,10 +6,9 @@
 --   lead cmp k ks             how many leading keys, up to the first greater one, are not greater than k
 --   sum ns                    of all counts
 --   examine_from .. r cs      the examination of the children cs, with the report r of those before
-use Rattle.std.specs.Prelude.{ℕ, suc, ◌+◌, List, [], ◌∷◌, get_or, drop}
-use Rattle.std.proofs.Math.Option.{Option, some}
-use Rattle.refusal.specs.Refusal.{Outcome, ok, bind}
-use Rattle.order.specs.declared.Order.{Order}
+use Rattle.std.specs.Prelude.{ℕ, suc, ◌+◌, List, [], ◌∷◌, get_or, drop, Ok, Option, Some}
+use Rattle.refusal.specs.Refusal.{Outcome, bind}
+use Rattle.std.specs.declared.cmp.Ordering.{Ordering}
 use Rattle.order.specs.Order.{below}
 use Rattle.tree.specs.Page.{branch, Children, last, more}
 use Rattle.tree.specs.Examination.{Report, counted, both}
@@ -22,14 +21,14 @@ module _ {K : Type 0} where
   abbrev pub children_from : List ℕ → List ℕ → List K → ℕ → Children K
   children_from ps ns ks j = children_of (drop j ps) (drop j ns) (drop j ks)
 
-  abbrev pub lead : (K → K → Order) → K → List K → ℕ
+  abbrev pub lead : (K → K → Ordering) → K → List K → ℕ
   lead cmp k [] = 0
   lead cmp k (s ∷ ks) = branch (below cmp k s) 0 (suc (lead cmp k ks))
 
   abbrev pub examine_from : (Option K → Option K → ℕ → Outcome Report) → Report → Option K → Option K → Children K → Outcome Report
-  examine_from child r lo hi (last p c) = bind (bind (child lo hi p) (counted c)) (λ a. ok (both r a))
+  examine_from child r lo hi (last p c) = bind (bind (child lo hi p) (counted c)) (λ a. Ok (both r a))
   examine_from child r lo hi (more p c s cs) =
-      bind (bind (child lo (some s) p) (counted c)) (λ a. examine_from child (both r a) (some s) hi cs)
+      bind (bind (child lo (Some s) p) (counted c)) (λ a. examine_from child (both r a) (Some s) hi cs)
 
 abbrev pub sum : List ℕ → ℕ
 sum [] = 0

@@ -7,8 +7,8 @@
 --   total cs        the sum of the recorded counts
 --   joined list cs  the children's lists joined, child 0 first
 --   nth i es        entry number i, refused with 15 where there is none
-use Rattle.std.specs.Prelude.{ℕ, zero, suc, ◌+◌, Bool, true, false, List, [], ◌∷◌, ◌++◌}
-use Rattle.refusal.specs.Refusal.{Outcome, ok, refuse, bad_index}
+use Rattle.std.specs.Prelude.{ℕ, zero, suc, ◌+◌, Bool, true, false, List, [], ◌∷◌, ◌++◌, Err, Ok}
+use Rattle.refusal.specs.Refusal.{Outcome, bad_index}
 
 abbrev pub branch : {A : Type 0} → Bool → A → A → A
 branch true a b = a
@@ -35,8 +35,8 @@ joined list (last p c) = list p
 joined list (more p c s cs) = list p ++ joined list cs
 
 abbrev pub nth : {E : Type 0} → ℕ → List E → Outcome E
-nth i [] = refuse bad_index
-nth zero (e ∷ es) = ok e
+nth i [] = Err bad_index
+nth zero (e ∷ es) = Ok e
 nth (suc i) (e ∷ es) = nth i es
 
 -- each of a list's elements, each of the children with its recorded count

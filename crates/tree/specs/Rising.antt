@@ -6,19 +6,18 @@
 --   first_above lo ks  the first key, if there is one, is above lo
 --   first_from lo ks   the first key, if there is one, is not below lo
 --   last_below hi ks   the last key, if there is one, is below hi
-use Rattle.std.specs.Prelude.{Bool, true, ◌&&◌, List, [], ◌∷◌}
-use Rattle.std.proofs.Math.Option.{Option, none, some}
-use Rattle.order.specs.declared.Order.{Order}
+use Rattle.std.specs.Prelude.{Bool, true, ◌&&◌, List, [], ◌∷◌, None, Option, Some}
+use Rattle.std.specs.declared.cmp.Ordering.{Ordering}
 use Rattle.tree.specs.Examination.{above_bound, from_bound, below_bound}
 
 abbrev pub keys_of : {K W : Type 0} → List (K × W) → List K
 keys_of [] = []
 keys_of (e ∷ es) = e.0 ∷ keys_of es
 
-module _ {K : Type 0} (cmp : K → K → Order) where
+module _ {K : Type 0} (cmp : K → K → Ordering) where
   unfoldable pub rises : Option K → List K → Bool
   rises b [] = true
-  rises b (k ∷ ks) = above_bound cmp b k && rises (some k) ks
+  rises b (k ∷ ks) = above_bound cmp b k && rises (Some k) ks
 
   unfoldable pub first_above : Option K → List K → Bool
   first_above lo [] = true
@@ -35,8 +34,8 @@ module _ {K : Type 0} (cmp : K → K → Order) where
 
   -- a leaf's keys
   abbrev pub keys_test : Option K → Option K → List K → Bool
-  keys_test lo hi ks = first_from lo ks && (rises none ks && last_below hi ks)
+  keys_test lo hi ks = first_from lo ks && (rises None ks && last_below hi ks)
 
   -- an inner page's separators
   abbrev pub separators_test : Option K → Option K → List K → Bool
-  separators_test lo hi ks = first_above lo ks && (rises none ks && last_below hi ks)
+  separators_test lo hi ks = first_above lo ks && (rises None ks && last_below hi ks)

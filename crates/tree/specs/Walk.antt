@@ -8,11 +8,9 @@
 --   next .. levels i is p  the entry after the one that the numbers i, is lead to from the page at p
 --   map_next .. is root    of a map; no numbers are those of the fresh state
 --   Yields .. es           stepping on by the numbers yields the entries es, one a step, and then no more
-use Rattle.std.specs.Prelude.{ℕ, zero, suc, ◌≡◌, List, [], ◌∷◌}
-use Rattle.std.proofs.Math.Option.{Option, none, some}
-use Rattle.std.proofs.Math.ListN.{get_elem?}
+use Rattle.std.specs.Prelude.{ℕ, zero, suc, ◌≡◌, List, [], ◌∷◌, Err, None, Ok, Option, Some, slice_get}
 use Rattle.refusal.specs.declared.Refusal.{Refusal}
-use Rattle.refusal.specs.Refusal.{Outcome, ok, refuse, too_deep, unsound}
+use Rattle.refusal.specs.Refusal.{Outcome, too_deep, unsound}
 use Rattle.tree.specs.Page.{Children, last, more, Page, leaf, inner}
 
 pub data Moved (E : Type 0) : Type 0 where
@@ -21,9 +19,9 @@ pub data Moved (E : Type 0) : Type 0 where
   stop : Refusal → Moved E
 
 abbrev pub child_at : {K : Type 0} → ℕ → Children K → Option ℕ
-child_at zero (last p c) = some p
-child_at (suc i) (last p c) = none
-child_at zero (more p c s cs) = some p
+child_at zero (last p c) = Some p
+child_at (suc i) (last p c) = None
+child_at zero (more p c s cs) = Some p
 child_at (suc i) (more p c s cs) = child_at i cs
 
 abbrev pub first_child : {K : Type 0} → Children K → ℕ
@@ -33,13 +31,13 @@ first_child (more p c s cs) = p
 module _ {E : Type 0} where
   -- entry number i, if the leaf has it
   abbrev pub entry_at : ℕ → Option E → Moved E
-  entry_at i none = over
-  entry_at i (some e) = yield e i []
+  entry_at i None = over
+  entry_at i (Some e) = yield e i []
 
   -- "a number [..] that doesn't fit [..] the page it is used at, refuses with 12": the entry last yielded must be there
   abbrev pub after_entry : Option E → Moved E → Moved E
-  after_entry none m = stop unsound
-  after_entry (some e) m = m
+  after_entry None m = stop unsound
+  after_entry (Some e) m = m
 
   -- the leftmost entry below child number i: "An empty leaf that is not the root refuses with 12."
   abbrev pub leftmost_in : ℕ → Moved E → Moved E
@@ -50,28 +48,28 @@ module _ {E : Type 0} where
   -- what is next in child number i; past its end, the leftmost entry of the child after it, if there is one
   abbrev pub next_over : (ℕ → Moved E) → ℕ → Option ℕ → Moved E → Moved E
   next_over first i after (yield e j is) = yield e i (j ∷ is)
-  next_over first i none over = over
-  next_over first i (some q) over = leftmost_in (suc i) (first q)
+  next_over first i None over = over
+  next_over first i (Some q) over = leftmost_in (suc i) (first q)
   next_over first i after (stop r) = stop r
 
   -- the child must be there
   abbrev pub next_in : (ℕ → Moved E) → (ℕ → Moved E) → ℕ → Option ℕ → Option ℕ → Moved E
-  next_in first next i none after = stop unsound
-  next_in first next i (some p) after = next_over first i after (next p)
+  next_in first next i None after = stop unsound
+  next_in first next i (Some p) after = next_over first i after (next p)
 
 module _ {K W : Type 0} where
   abbrev pub first_page : (ℕ → Moved (K × W)) → Outcome (Page K W) → Moved (K × W)
-  first_page first (refuse r) = stop r
-  first_page first (ok (leaf es)) = entry_at 0 (get_elem? es 0)
-  first_page first (ok (inner cs)) = leftmost_in 0 (first (first_child cs))
+  first_page first (Err r) = stop r
+  first_page first (Ok (leaf es)) = entry_at 0 (slice_get es 0)
+  first_page first (Ok (inner cs)) = leftmost_in 0 (first (first_child cs))
 
   -- "a number or depth that doesn't fit": a leaf takes the last number, an inner page one that is not the last
   abbrev pub next_page : (ℕ → Moved (K × W)) → (ℕ → List ℕ → ℕ → Moved (K × W)) → ℕ → List ℕ → Outcome (Page K W) → Moved (K × W)
-  next_page first next i is (refuse r) = stop r
-  next_page first next i [] (ok (leaf es)) = after_entry (get_elem? es i) (entry_at (suc i) (get_elem? es (suc i)))
-  next_page first next i (j ∷ is) (ok (leaf es)) = stop unsound
-  next_page first next i [] (ok (inner cs)) = stop unsound
-  next_page first next i (j ∷ is) (ok (inner cs)) = next_in first (next j is) i (child_at i cs) (child_at (suc i) cs)
+  next_page first next i is (Err r) = stop r
+  next_page first next i [] (Ok (leaf es)) = after_entry (slice_get es i) (entry_at (suc i) (slice_get es (suc i)))
+  next_page first next i (j ∷ is) (Ok (leaf es)) = stop unsound
+  next_page first next i [] (Ok (inner cs)) = stop unsound
+  next_page first next i (j ∷ is) (Ok (inner cs)) = next_in first (next j is) i (child_at i cs) (child_at (suc i) cs)
 
 module _ {K W : Type 0} (read : ℕ → Outcome (Page K W)) where
   unfoldable pub first : ℕ → ℕ → Moved (K × W)

@@ -1,7 +1,7 @@
 // Questions about keys.
 use super::{MOST_BYTES, output};
 use key::{Kind, Sized};
-use order::Order;
+use std::cmp::Ordering;
 
 fn kind(question: &[u8]) -> Kind {
     if script::number(question, 1, 16) == 0 {
@@ -42,13 +42,13 @@ fn compare(question: &[u8]) {
     let m = script::bytes(question, 3, &mut other);
     let order = key::compare(kind(question), &one[..n], &other[..m]);
     match order {
-        Order::Less => {
+        Ordering::Less => {
             output::word(b"less");
         }
-        Order::Equal => {
+        Ordering::Equal => {
             output::word(b"equal");
         }
-        Order::Greater => {
+        Ordering::Greater => {
             output::word(b"greater");
         }
     }

@@ -4,8 +4,8 @@
 --   opened_in image edition  the store, or why the image does not open
 --   opened_store image view  the same by a view, as a caller gives it
 --   store_said               the code's answer as an outcome
-use Rattle.std.specs.Prelude.{ℕ, cond, List, eqb}
-use Rattle.refusal.specs.Refusal.{Outcome, ok, refuse, bind, bad_argument}
+use Rattle.std.specs.Prelude.{ℕ, cond, List, eqb, Err, Ok}
+use Rattle.refusal.specs.Refusal.{Outcome, bind, bad_argument}
 use Rattle.fletcher.specs.declared.Edition.{Edition}
 use Rattle.fletcher.specs.declared.Edition.TheVariants.{First, Second}
 use Rattle.opening.specs.declared.View.{View}
@@ -18,11 +18,11 @@ use Rattle.viewing.specs.declared.Viewed.TheVariants as viewed
 
 -- "opening takes an edition, 1 as in 01 or 2"; "edition not 1 or 2 is 1"
 unfoldable pub edition_of : ℕ → Outcome Edition
-edition_of n = cond (eqb n 1) (ok First) (cond (eqb n 2) (ok Second) (refuse bad_argument))
+edition_of n = cond (eqb n 1) (Ok First) (cond (eqb n 2) (Ok Second) (Err bad_argument))
 
 abbrev pub store_by : Edition → Opened → Outcome Store
-store_by edition (opened.Newest c) = ok (record { edition = edition; newest = c })
-store_by edition (opened.Refused r) = refuse r
+store_by edition (opened.Newest c) = Ok (record { edition = edition; newest = c })
+store_by edition (opened.Refused r) = Err r
 
 unfoldable pub opened_in : List ℕ → Edition → Outcome Store
 opened_in image edition = store_by edition (opened image edition)
@@ -33,5 +33,5 @@ opened_store image view = bind (edition_of view.edition) (opened_in image)
 
 -- ## What the code hands back
 abbrev pub store_said : Viewed → Outcome Store
-store_said (viewed.Is s) = ok s
-store_said (viewed.Refused r) = refuse r
+store_said (viewed.Is s) = Ok s
+store_said (viewed.Refused r) = Err r

@@ -5,8 +5,7 @@
 --   given w m        the step from w when m is next: the state after it, and the answer `next_of m`
 --   step_of .. w     the call
 --   WalksOf .. w es  steps from w yield the entries es, one a step, and then Done, which is given again
-use Rattle.std.specs.Prelude.{ℕ, ◌≡◌, List, [], ◌∷◌, eqb}
-use Rattle.std.proofs.Math.Option.{Option, none, some}
+use Rattle.std.specs.Prelude.{ℕ, ◌≡◌, List, [], ◌∷◌, eqb, None, Option, Some}
 use Rattle.refusal.specs.Refusal.{refusal}
 use Rattle.text.specs.Text.{within}
 use Rattle.key.specs.Key.{Key, number, text}
@@ -25,7 +24,7 @@ use Rattle.walk.specs.declared.Step.{Step}
 
 -- "the last answer: going on, Done or a table number"
 unfoldable pub recorded : ℕ → Option Next
-recorded n = branch (eqb n done_number) (some next.Done) (branch (within 1 16 n) (some (next.Refused (refusal n))) none)
+recorded n = branch (eqb n done_number) (Some next.Done) (branch (within 1 16 n) (Some (next.Refused (refusal n))) None)
 
 -- "index and walk give the key too, kind 1 by place and length"
 abbrev pub entry_next : Key → Entry → Next
@@ -49,8 +48,8 @@ module _ (image : List ℕ) (view : View) (map kind : ℕ) where
 
   -- "is given again at each later step before anything is judged, the state unchanged"
   abbrev pub again : Walk → Option Next → Step
-  again w (some n) = record { walk = w; next = n }
-  again w none = given w (moved_of w)
+  again w (Some n) = record { walk = w; next = n }
+  again w None = given w (moved_of w)
 
   unfoldable pub step_of : Walk → Step
   step_of w = again w (recorded w.last)

@@ -1,10 +1,9 @@
 -- Laws of one step, one for each way that the code takes.
-use Rattle.std.specs.Prelude.{ℕ, ◌≤◌, ◌≡◌, refl, true, false, List, leb}
+use Rattle.std.specs.Prelude.{ℕ, ◌≤◌, ◌≡◌, refl, true, false, List, leb, Err, None, Ok, Option, Some}
 use Rattle.std.proofs.Math.Bool.{and-eq-true_iff}
-use Rattle.std.proofs.Math.Option.{Option, none, some}
 use Rattle.std.proofs.Common.{eq-eqb, ne_eqb, leb-true}
 use Rattle.refusal.specs.declared.Refusal.{Refusal}
-use Rattle.refusal.specs.Refusal.{Outcome, ok, refuse, refusal}
+use Rattle.refusal.specs.Refusal.{Outcome, refusal}
 use Rattle.text.specs.Text.{within}
 use Rattle.key.specs.declared.Kind.{Kind}
 use Rattle.key.specs.Key.{Key, number, text}
@@ -79,22 +78,22 @@ step_keyed image kind w over h = refl
 step_keyed image kind w (stop r) h = refl
 
 module _ (image : List ℕ) (view : View) (id : ℕ) (kind : Kind) (w : Walk) where
-  pub after_shut : {r : Refusal} → opened_store image view ≡ refuse r → given w (stop r) ≡ given w (moved_after image view id kind w)
+  pub after_shut : {r : Refusal} → opened_store image view ≡ Err r → given w (stop r) ≡ given w (moved_after image view id kind w)
   unfolding moved_after
   after_shut e = rw e
 
-  pub after_open : {o : Store} → opened_store image view ≡ ok o → {s : Stepped} → s ≡ step_in image o id kind w
+  pub after_open : {o : Store} → opened_store image view ≡ Ok o → {s : Stepped} → s ≡ step_in image o id kind w
       → step_by image kind s ≡ given w (moved_after image view id kind w)
   unfolding moved_after step_in
   after_open {o} e f = rw (e, f) (step_keyed image kind w _ (go (map_root image o id)))
     where
       by : (root : ℕ) (n : Option (List ℕ)) → Holds (EntryIn image kind) (moved_by (reader image o id kind) root n)
-      by root none = tt
-      by root (some is) = next_in_lem image o id kind is root
+      by root None = tt
+      by root (Some is) = next_in_lem image o id kind is root
 
       go : (r : Outcome ℕ) → Holds (EntryIn image kind) (moved_in r (λ root. moved_by (reader image o id kind) root (numbers w)))
-      go (refuse r) = tt
-      go (ok root) = by root (numbers w)
+      go (Err r) = tt
+      go (Ok root) = by root (numbers w)
 
 -- ## The call
 pub table_small : (n : ℕ) → within 1 16 n ≡ true → n ≤ 16
@@ -117,10 +116,10 @@ module _ (image : List ℕ) (view : View) (map kind : ℕ) (w : Walk) where
       unfolding step_of recorded
       step_going = rw (ne_eqb w.last done_number other, free)
 
-      pub step_bad : {r : Refusal} → asked_map map kind ≡ refuse r → given w (stop r) ≡ step_of image view map kind w
+      pub step_bad : {r : Refusal} → asked_map map kind ≡ Err r → given w (stop r) ≡ step_of image view map kind w
       unfolding moved_of
       step_bad e = rw e at step_going
 
-      pub step_asked : {id : ℕ} {k : Kind} → asked_map map kind ≡ ok (id, k) → given w (moved_after image view id k w) ≡ step_of image view map kind w
+      pub step_asked : {id : ℕ} {k : Kind} → asked_map map kind ≡ Ok (id, k) → given w (moved_after image view id k w) ≡ step_of image view map kind w
       unfolding moved_of moved_after
       step_asked e = rw e at step_going

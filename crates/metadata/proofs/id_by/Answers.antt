@@ -1,5 +1,5 @@
+use Rattle.std.specs.Prelude.{Err}
 use mathlib.Core.Path.{◌∙◌, ap}
-use Rattle.refusal.specs.Refusal.{refuse}
 use Rattle.numeral.specs.Hex.{hex_of}
 use Rattle.metadata.specs.Answers.{id_of}
 use Rattle.metadata.specs.Answers.{id_by}
@@ -11,7 +11,7 @@ returns-in-Found c = rw c.in-Found.is (c.id_of.ensures ∙ ap id_of (c.read_hex.
 
 pub returns-in-Absent : goal.returns-in-Absent
 unfolding id_by
-returns-in-Absent c = rw c.in-Absent.is (ap refuse c.new.ensures)
+returns-in-Absent c = rw c.in-Absent.is (ap Err c.new.ensures)
 
 pub returns-in-Refused : goal.returns-in-Refused
 unfolding id_by

@@ -1,8 +1,8 @@
+use Rattle.std.specs.Prelude.{Err}
 use mathlib.Core.Path.{◌≡◌, sym, ◌∙◌, ap}
 use native.Mathlib.Omega.{arith}
 use lib.ListN.{take}
 use lib.Seq.{length-take-le, take_all}
-use Rattle.refusal.specs.Refusal.{refuse}
 use Rattle.metadata.specs.Keys.{name_key}
 use Rattle.metadata.specs.KeyLaws.{padded_text, padded_inside}
 use Rattle.store.specs.MemoryLaws.{empty_right}
@@ -12,7 +12,7 @@ use Rattle.store.proofs.map_id.Goals as goal
 pub returns-then-name-gt-NAME : goal.returns-then-name-gt-NAME
 returns-then-name-gt-NAME c =
     let a = c.args in
-    ap refuse c.new.ensures ∙ sym (name_long a.image.now a.store a.name.now c.if-name-gt-NAME.true)
+    ap Err c.new.ensures ∙ sym (name_long a.image.now a.store a.name.now c.if-name-gt-NAME.true)
 
 pub slice_bounds-bytes-end : goal.slice_bounds-bytes-end
 slice_bounds-bytes-end c = rw c.name_key-key.ensures (padded_inside 1005 (name_key (take 1000 c.args.name.now)))

@@ -1,7 +1,7 @@
 use Prim.Native.Nat.{◌≤◌, ◌-◌}
 use mathlib.Core.Path.{◌≡◌}
 use lib.ListN.{take}
-use Rattle.order.specs.declared.Order.TheVariants.{Equal}
+use Rattle.std.specs.declared.cmp.Ordering.TheVariants.{Equal}
 use Rattle.key.specs.Key.{texts_order}
 use Rattle.key.proofs.texts.compare_each.Given as goal
 

@@ -1,6 +1,6 @@
 use mathlib.Core.Path.{refl, sym, ◌∙◌}
 use native.Mathlib.Omega.{arith}
-use Rattle.order.specs.declared.Order.TheVariants.{Less, Greater}
+use Rattle.std.specs.declared.cmp.Ordering.TheVariants.{Less, Greater}
 use Rattle.key.specs.TextsLaws.{texts_differ, texts_rest, texts_end, texts_beginning, texts_extension}
 use Rattle.key.proofs.texts.compare_texts.Goals as goal
 
