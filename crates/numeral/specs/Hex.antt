@@ -9,13 +9,11 @@
 --   hex_text n      the digits of n
 --   digits_of n     the digits of n at the end of 16 bytes, after zeros, and the place where they begin
 --   text_of d       the digits that `Digits` holds
-use Rattle.std.specs.Prelude.{ℕ, zero, suc, ◌+◌, ◌*◌, ◌-◌, ◌/◌, ◌%◌, ◌<◌, ◌≡◌, Bool, cond, not, ◌&&◌, ◌||◌, List, [], ◌∷◌, ◌++◌, eqb, ltb, length, get_or, take, drop, replicate}
+use Rattle.std.specs.Prelude.{ℕ, zero, suc, ◌+◌, ◌*◌, ◌-◌, ◌/◌, ◌%◌, ◌<◌, ◌≡◌, Bool, cond, not, ◌&&◌, ◌||◌, List, [], ◌∷◌, ◌++◌, eqb, ltb, length, get_or, take, drop, replicate, Option, Some, None}
 use Rattle.text.specs.Text.{span, every, within}
 use Rattle.numeral.specs.declared.Numeral.{Numeral}
-use Rattle.numeral.specs.declared.Numeral.TheVariants as numeral
-use Rattle.numeral.specs.declared.hex.Number.{Number}
-use Rattle.numeral.specs.declared.hex.Number.TheVariants as number
 use Rattle.numeral.specs.declared.hex.Digits.{Digits}
+use Rattle.numeral.specs.Var.{numeral_of}
 
 unfoldable pub digit_of : ℕ → ℕ
 digit_of b = cond (within 48 57 b) (b - 48) (cond (within 97 102 b) (b - 87) 16)
@@ -34,13 +32,13 @@ hex_value s = hex_from 0 s
 unfoldable pub shaped : List ℕ → Bool
 shaped s = within 1 16 (length s) && (eqb (length s) 1 || not (eqb (get_or s 0 0) 48))
 
-unfoldable pub hex_of : List ℕ → Number
-hex_of s = cond (every is_digit s && shaped s) (number.Value (hex_value s)) number.Bad
+unfoldable pub hex_of : List ℕ → Option ℕ
+hex_of s = cond (every is_digit s && shaped s) (Some (hex_value s)) None
 
-unfoldable pub hex_run_at : List ℕ → ℕ → Numeral
+unfoldable pub hex_run_at : List ℕ → ℕ → Option Numeral
 hex_run_at s i =
     let run = take (span is_digit (drop i s)) (drop i s) in
-    cond (shaped run) (numeral.Read (hex_value run) (i + length run)) numeral.Bad
+    cond (shaped run) (numeral_of (hex_value run) (i + length run)) None
 
 -- the digit of a number below 16
 abbrev pub digit_byte : ℕ → ℕ

@@ -3,7 +3,7 @@
 --   run s i          the run of digits at place i of s
 --   Passed s at i v  the digits from `at` up to i are passed, with more to come perhaps; v is their value
 use Prim.Native.Nat.{ℕ, suc, ◌+◌, ◌*◌, ◌-◌, ◌^◌, ◌<◌, ◌≤◌}
-use Rattle.std.specs.Prelude.{◌≡◌, refl, Bool, true, false, cond, ◌&&◌, List, [], ◌∷◌, eqb, get_or, take, drop}
+use Rattle.std.specs.Prelude.{◌≡◌, refl, Bool, true, false, cond, ◌&&◌, List, [], ◌∷◌, eqb, get_or, take, drop, Option, Some, None}
 use Rattle.std.proofs.Common.{sym, ◌∙◌, zero-add, lt-ltb, eq-eqb, ne_eqb, eqb-true, length-take-le}
 use Rattle.std.proofs.Math.Path.{ap}
 use Rattle.std.proofs.Math.Nat.{pow-suc, pow-le-pow_right}
@@ -15,9 +15,7 @@ use Rattle.std.proofs.Math.Seq.{drop-cons, take-length}
 use Rattle.text.specs.Text.{span, every}
 use Rattle.text.specs.Laws.{span_on, span_stop, span_end, span_le, every_span}
 use Rattle.numeral.specs.declared.Numeral.{Numeral}
-use Rattle.numeral.specs.declared.Numeral.TheVariants.{Read, Bad}
-use Rattle.numeral.specs.declared.hex.Number.{Number}
-use Rattle.numeral.specs.declared.hex.Number.TheVariants as number
+use Rattle.numeral.specs.Var.{numeral_of}
 use Rattle.numeral.specs.Hex.{digit_of, is_digit, hex_from, hex_value, shaped, hex_of, hex_run_at}
 use Rattle.numeral.specs.HexLaws.{Shaped, shaped_true, shaped_empty, shaped_long, shaped_zero}
 
@@ -37,7 +35,7 @@ module _ (s : List ℕ) (i : ℕ) where
   unfolding run
   run_end h = rw (span_end is_digit s i h)
 
-  pub hex_run_at_none : run s i ≡ [] → hex_run_at s i ≡ Bad
+  pub hex_run_at_none : run s i ≡ [] → hex_run_at s i ≡ None
   unfolding run hex_run_at
   hex_run_at_none e = rw (shaped_empty (run s i) (ap length e))
 
@@ -68,7 +66,7 @@ module _ {s : List ℕ} {at : ℕ} where
 
 module _ {s : List ℕ} {at i v : ℕ} (p : Passed s at i v) where
   -- the digits passed are the whole run
-  pub passed_all : run s i ≡ [] → hex_run_at s at ≡ Read v i
+  pub passed_all : run s i ≡ [] → hex_run_at s at ≡ numeral_of v i
   unfolding run hex_run_at hex_from
   passed_all e =
       let n : at + length (run s at) ≡ i = omega (arith, p.size, ap length e) in
@@ -81,11 +79,11 @@ module _ {s : List ℕ} {at i v : ℕ} (p : Passed s at i v) where
 
   module _ (h : i < length s) (d : digit_of (get_or s i 0) < 16) where
     -- one digit more follows a `0`, or 16 digits
-    pub passed_zero : get_or s at 0 ≡ 48 → hex_run_at s at ≡ Bad
+    pub passed_zero : get_or s at 0 ≡ 48 → hex_run_at s at ≡ None
     unfolding run hex_run_at
     passed_zero z = rw (shaped_zero (run s at) (omega (arith, p.some, p.size, ap length (run_on s i h d))) (p.front ∙ z))
 
-    pub passed_long : i - at ≡ 16 → hex_run_at s at ≡ Bad
+    pub passed_long : i - at ≡ 16 → hex_run_at s at ≡ None
     unfolding run hex_run_at
     passed_long z = rw (shaped_long (run s at) (omega (arith, p.size, ap length (run_on s i h d))))
 
@@ -109,9 +107,9 @@ module _ {s : List ℕ} {at i v : ℕ} (p : Passed s at i v) where
           }
 
 -- ## The run at the front of a part of a text is the whole part, or the part is no number
-abbrev pub whole : ℕ → Numeral → Number
-whole end (Read v next) = cond (eqb next end) (number.Value v) number.Bad
-whole end Bad = number.Bad
+abbrev pub whole : ℕ → Option Numeral → Option ℕ
+whole end (Some n) = cond (eqb n.next end) (Some n.value) None
+whole end None = None
 
 -- n bytes at place i; `every_narrower` gives the premise of a part that ends at a byte that is no digit
 pub hex_of_part : (s : List ℕ) (i n : ℕ) → every is_digit (take n (drop i s)) ≡ eqb (span is_digit (drop i s)) n →
@@ -129,8 +127,8 @@ hex_of_part s i n q = go (eqb m n) refl (shaped (take m part)) refl
     size = length-take-le m part (span_le is_digit part)
 
     go : (t : Bool) → eqb m n ≡ t → (u : Bool) → shaped (take m part) ≡ u →
-        cond (every is_digit (take n part) && shaped (take n part)) (number.Value (hex_value (take n part))) number.Bad ≡
-        whole (i + n) (cond (shaped (take m part)) (Read (hex_value (take m part)) (i + length (take m part))) Bad)
+        cond (every is_digit (take n part) && shaped (take n part)) (Some (hex_value (take n part))) None ≡
+        whole (i + n) (cond (shaped (take m part)) (numeral_of (hex_value (take m part)) (i + length (take m part))) None)
     go true e true f =
         let l = eqb-true m n e in
         rw (q, e, ← l, f, eq-eqb (i + length (take m part)) (i + m) (omega (arith, size)))

@@ -1,10 +1,9 @@
 -- Laws of the digits of a number.
 use Prim.Native.Nat.{ℕ, zero, suc, ◌+◌, ◌*◌, ◌-◌, ◌/◌, ◌%◌, ◌^◌, ◌<◌, ◌≤◌}
-use Rattle.std.specs.Prelude.{◌≡◌, refl, Bool, true, false, cond, ◌&&◌, List, [], ◌∷◌, ◌++◌, ltb, length, get_or}
+use Rattle.std.specs.Prelude.{◌≡◌, refl, Bool, true, false, cond, ◌&&◌, List, [], ◌∷◌, ◌++◌, ltb, length, get_or, Option, Some, None}
 use Rattle.std.proofs.Common.{sym, ap, ◌∙◌, true≢false, append-nil, zero-add, add-zero, pow-suc, sub-one, arith, lt-ltb, le-ltb, ltb-true, ltb-false}
 use Rattle.text.specs.Text.{every}
 use Rattle.text.specs.Laws.{every_first}
-use Rattle.numeral.specs.declared.hex.Number.TheVariants as number
 use Rattle.numeral.specs.Hex.{digit_of, is_digit, digit_byte, hex_from, hex_value, hex_before, hex_text, shaped, hex_of}
 use Rattle.numeral.specs.HexLaws.{Shaped, shaped_true, shaped_known}
 use Rattle.numeral.specs.HexLaws.{digit_of_decimal, digit_of-digit_byte, digit_byte-digit_of, digit_of_zero}
@@ -117,9 +116,9 @@ pub hex_value-hex_text : (n : ℕ) → n < 2 ^ 64 → hex_value (hex_text n) ≡
 unfolding hex_text hex_from
 hex_value-hex_text n h = hex_from-hex_before 16 n [] (omega arith) h
 
-pub hex_of-hex_text : (n : ℕ) → n < 2 ^ 64 → hex_of (hex_text n) ≡ number.Value n
+pub hex_of-hex_text : (n : ℕ) → n < 2 ^ 64 → hex_of (hex_text n) ≡ Some n
 unfolding hex_of
-hex_of-hex_text n h = rw (hex_text_digits n, hex_text_shaped n h) (ap number.Value (hex_value-hex_text n h))
+hex_of-hex_text n h = rw (hex_text_digits n, hex_text_shaped n h) (ap Some (hex_value-hex_text n h))
 
 -- ## A number has one text
 -- the digits of what follows other digits, before the digits of those
@@ -157,12 +156,12 @@ hex_text-hex_value (b ∷ (x ∷ s)) d p =
     rw (digit_byte-digit_of b digit, append-nil)
     )
 
-pub hex_text-hex_of : (s : List ℕ) (n : ℕ) → hex_of s ≡ number.Value n → s ≡ hex_text n
+pub hex_text-hex_of : (s : List ℕ) (n : ℕ) → hex_of s ≡ Some n → s ≡ hex_text n
 unfolding hex_of
 hex_text-hex_of s n e = go (every is_digit s) refl (shaped s) refl e
   where
     go : (t : Bool) → every is_digit s ≡ t → (u : Bool) → shaped s ≡ u →
-        cond (t && u) (number.Value (hex_value s)) number.Bad ≡ number.Value n → s ≡ hex_text n
+        cond (t && u) (Some (hex_value s)) None ≡ Some n → s ≡ hex_text n
     go true d true f e = hex_text-hex_value s d (shaped_known s f) ∙ ap hex_text (cc)
     go true d false f e = absurd (true≢false cc)
     go false d u f e = absurd (true≢false cc)

@@ -3,56 +3,55 @@
 --   Below limit r     r is below the limit, if it is a number
 --   Inside from to r  the place after r lies between the two, if it is a number
 --   VarRead           what a caller knows of a number that was read
-use Rattle.std.specs.Prelude.{ℕ, suc, ◌+◌, ◌*◌, ◌-◌, ◌/◌, ◌^◌, ◌<◌, ◌≤◌, ◌≡◌, refl, Bool, cond, List, [], ◌∷◌, eqb, length, get_or, drop}
+use Rattle.std.specs.Prelude.{ℕ, suc, ◌+◌, ◌*◌, ◌-◌, ◌/◌, ◌^◌, ◌<◌, ◌≤◌, ◌≡◌, refl, Bool, cond, List, [], ◌∷◌, eqb, length, get_or, drop, Option, Some, None}
 use Rattle.std.proofs.Common.{◌∙◌, arith, length-drop, drop_of_length-le, drop-cons}
 use Rattle.std.proofs.Math.Bool.{true, false}
 use Rattle.std.proofs.Math.Numerals.{add-one}
 use borrow.Author.Tests.{lt-ltb, le-ltb, ltb-true, ltb-false, eqb-false, ne_eqb}
 use Rattle.std.proofs.Math.Dec.{ltb}
 use Rattle.numeral.specs.declared.Numeral.{Numeral}
-use Rattle.numeral.specs.declared.Numeral.TheVariants.{Read, Bad}
-use Rattle.numeral.specs.Var.{continued, var_from, limited, Fits64, var_at}
+use Rattle.numeral.specs.Var.{numeral_of, continued, var_from, limited, Fits64, var_at}
 
 -- ## The limit of what follows a byte
 -- the number is at least 128 + low
-limited_over : (limit low : ℕ) (r : Numeral) → limit ≤ 128 + low → limited limit (continued low r) ≡ Bad
+limited_over : (limit low : ℕ) (r : Option Numeral) → limit ≤ 128 + low → limited limit (continued low r) ≡ None
 unfolding limited continued
-limited_over limit low Bad h = refl
-limited_over limit low (Read v next) h = go (eqb v 0) refl
+limited_over limit low None h = refl
+limited_over limit low (Some n) h = go (eqb n.value 0) refl
   where
-    go : (t : Bool) → eqb v 0 ≡ t → limited limit (cond t Bad (Read (v * 128 + low) next)) ≡ Bad
+    go : (t : Bool) → eqb n.value 0 ≡ t → limited limit (cond t None (numeral_of (n.value * 128 + low) n.next)) ≡ None
     go true e = refl
-    go false e = rw (le-ltb (v * 128 + low) limit (omega (arith, eqb-false v 0 e)))
+    go false e = rw (le-ltb (n.value * 128 + low) limit (omega (arith, eqb-false n.value 0 e)))
 
-limited_more : (limit low : ℕ) (r : Numeral) → low < limit →
+limited_more : (limit low : ℕ) (r : Option Numeral) → low < limit →
     limited limit (continued low r) ≡ continued low (limited ((limit - low - 1) / 128 + 1) r)
 unfolding limited continued
-limited_more limit low Bad h = refl
-limited_more limit low (Read v next) h = go (ltb v ((limit - low - 1) / 128 + 1)) refl (eqb v 0) refl
+limited_more limit low None h = refl
+limited_more limit low (Some n) h = go (ltb n.value ((limit - low - 1) / 128 + 1)) refl (eqb n.value 0) refl
   where
-    go : (t : Bool) → ltb v ((limit - low - 1) / 128 + 1) ≡ t → (z : Bool) → eqb v 0 ≡ z →
-        limited limit (cond (eqb v 0) Bad (Read (v * 128 + low) next)) ≡ continued low (cond t (Read v next) Bad)
+    go : (t : Bool) → ltb n.value ((limit - low - 1) / 128 + 1) ≡ t → (z : Bool) → eqb n.value 0 ≡ z →
+        limited limit (cond (eqb n.value 0) None (numeral_of (n.value * 128 + low) n.next)) ≡ continued low (cond t (Some n) None)
     go true e true z = rw z
     go false e true z = rw z
-    go true e false z = rw (z, lt-ltb (v * 128 + low) limit (omega (arith, ltb-true v ((limit - low - 1) / 128 + 1) e)))
-    go false e false z = rw (z, le-ltb (v * 128 + low) limit (omega (arith, ltb-false v ((limit - low - 1) / 128 + 1) e)))
+    go true e false z = rw (z, lt-ltb (n.value * 128 + low) limit (omega (arith, ltb-true n.value ((limit - low - 1) / 128 + 1) e)))
+    go false e false z = rw (z, le-ltb (n.value * 128 + low) limit (omega (arith, ltb-false n.value ((limit - low - 1) / 128 + 1) e)))
 
 -- ## The number at a place, by its first byte
 module _ (limit : ℕ) (s : List ℕ) (i : ℕ) where
-  pub var_at_past : length s ≤ i → var_at limit s i ≡ Bad
+  pub var_at_past : length s ≤ i → var_at limit s i ≡ None
   unfolding var_at var_from limited
   var_at_past h = rw (drop_of_length-le s h)
 
-  pub var_at_over : i < length s → limit ≤ get_or s i 0 → var_at limit s i ≡ Bad
+  pub var_at_over : i < length s → limit ≤ get_or s i 0 → var_at limit s i ≡ None
   unfolding var_at var_from limited
   var_at_over h l = rw (drop-cons s i 0 h) (go (ltb (get_or s i 0) 128) refl)
     where
       go : (t : Bool) → ltb (get_or s i 0) 128 ≡ t →
-          limited limit (cond t (Read (get_or s i 0) (i + 1)) (continued (get_or s i 0 - 128) (var_from (i + 1) (drop (suc i) s)))) ≡ Bad
+          limited limit (cond t (numeral_of (get_or s i 0) (i + 1)) (continued (get_or s i 0 - 128) (var_from (i + 1) (drop (suc i) s)))) ≡ None
       go true e = rw (le-ltb (get_or s i 0) limit l)
       go false e = limited_over limit (get_or s i 0 - 128) _ (omega arith)
 
-  pub var_at_last : i < length s → get_or s i 0 < limit → get_or s i 0 < 128 → var_at limit s i ≡ Read (get_or s i 0) (i + 1)
+  pub var_at_last : i < length s → get_or s i 0 < limit → get_or s i 0 < 128 → var_at limit s i ≡ numeral_of (get_or s i 0) (i + 1)
   unfolding var_at var_from limited
   var_at_last h l b = rw (drop-cons s i 0 h, lt-ltb (get_or s i 0) 128 b, lt-ltb (get_or s i 0) limit l)
 
@@ -64,17 +63,17 @@ module _ (limit : ℕ) (s : List ℕ) (i : ℕ) where
       (limited_more limit (get_or s i 0 - 128) (var_from (suc i) (drop (suc i) s)) (omega arith))
 
 -- ## What was read
-abbrev pub Below : ℕ → Numeral → Type 0
-Below limit (Read v next) = v < limit
-Below limit Bad = Unit {0}
+abbrev pub Below : ℕ → Option Numeral → Type 0
+Below limit (Some n) = n.value < limit
+Below limit None = Unit {0}
 
-limited_below : (limit : ℕ) (r : Numeral) → Below limit (limited limit r)
+limited_below : (limit : ℕ) (r : Option Numeral) → Below limit (limited limit r)
 unfolding limited
-limited_below limit Bad = tt
-limited_below limit (Read v next) = go (ltb v limit) refl
+limited_below limit None = tt
+limited_below limit (Some n) = go (ltb n.value limit) refl
   where
-    go : (t : Bool) → ltb v limit ≡ t → Below limit (cond t (Read v next) Bad)
-    go true e = ltb-true v limit e
+    go : (t : Bool) → ltb n.value limit ≡ t → Below limit (cond t (Some n) None)
+    go true e = ltb-true n.value limit e
     go false e = tt
 
 -- the number that a byte makes of what follows it has 64 bits
@@ -84,13 +83,13 @@ unfolding var_at Fits64
 var_at_fits limit low s i h l =
     rw (← limited_more limit low (var_from i (drop i s)) h) (go (limited limit (continued low (var_from i (drop i s)))) (limited_below limit _))
   where
-    go : (r : Numeral) → Below limit r → Fits64 r
-    go (Read v next) b = omega arith
-    go Bad b = tt
+    go : (r : Option Numeral) → Below limit r → Fits64 r
+    go (Some n) b = omega arith
+    go None b = tt
 
 -- ## A number of two bytes
 pub var_at_pair : (limit : ℕ) (s : List ℕ) (i : ℕ) → i + 1 < length s → 128 ≤ get_or s i 0 → 0 < get_or s (i + 1) 0 → get_or s (i + 1) 0 < 128
-    → get_or s (i + 1) 0 * 128 + (get_or s i 0 - 128) < limit → var_at limit s i ≡ Read (get_or s (i + 1) 0 * 128 + (get_or s i 0 - 128)) (i + 2)
+    → get_or s (i + 1) 0 * 128 + (get_or s i 0 - 128) < limit → var_at limit s i ≡ numeral_of (get_or s (i + 1) 0 * 128 + (get_or s i 0 - 128)) (i + 2)
 unfolding continued
 var_at_pair limit s i h a z b l =
     let low = get_or s i 0 - 128 in
@@ -98,25 +97,25 @@ var_at_pair limit s i h a z b l =
     let past : i + 1 + 1 ≡ i + 2 = omega arith in
     var_at_more limit s i (omega arith) (omega arith) a ∙ rw (last, past, ne_eqb (get_or s (i + 1) 0) 0 (λ e. omega arith))
 
-abbrev Inside : ℕ → ℕ → Numeral → Type 0
-Inside low high (Read v next) = (low < next) × (next ≤ high)
-Inside low high Bad = Unit {0}
+abbrev Inside : ℕ → ℕ → Option Numeral → Type 0
+Inside low high (Some n) = (low < n.next) × (n.next ≤ high)
+Inside low high None = Unit {0}
 
-continued_inside : (i j low : ℕ) (r : Numeral) → Inside i j r → Inside i j (continued low r)
+continued_inside : (i j low : ℕ) (r : Option Numeral) → Inside i j r → Inside i j (continued low r)
 unfolding continued
-continued_inside i j low Bad h = tt
-continued_inside i j low (Read v next) h = go (eqb v 0)
+continued_inside i j low None h = tt
+continued_inside i j low (Some n) h = go (eqb n.value 0)
   where
-    go : (t : Bool) → Inside i j (cond t Bad (Read (v * 128 + low) next))
+    go : (t : Bool) → Inside i j (cond t None (numeral_of (n.value * 128 + low) n.next))
     go true = tt
     go false = h
 
-limited_inside : (i j limit : ℕ) (r : Numeral) → Inside i j r → Inside i j (limited limit r)
+limited_inside : (i j limit : ℕ) (r : Option Numeral) → Inside i j r → Inside i j (limited limit r)
 unfolding limited
-limited_inside i j limit Bad h = tt
-limited_inside i j limit (Read v next) h = go (ltb v limit)
+limited_inside i j limit None h = tt
+limited_inside i j limit (Some n) h = go (ltb n.value limit)
   where
-    go : (t : Bool) → Inside i j (cond t (Read v next) Bad)
+    go : (t : Bool) → Inside i j (cond t (Some n) None)
     go true = h
     go false = tt
 
@@ -127,12 +126,12 @@ var_from_inside i (b ∷ s) =
     let r = var_from (i + 1) s in
     go (ltb b 128) (continued_inside _ _ (b - 128) r (wider r (var_from_inside (i + 1) s)))
   where
-    wider : (r : Numeral) → Inside (i + 1) (i + 1 + length s) r → Inside i (i + suc (length s)) r
-    wider (Read v next) h = (omega arith, omega arith)
-    wider Bad h = tt
+    wider : (r : Option Numeral) → Inside (i + 1) (i + 1 + length s) r → Inside i (i + suc (length s)) r
+    wider (Some n) h = (omega arith, omega arith)
+    wider None h = tt
 
     go : (t : Bool) → Inside i (i + suc (length s)) (continued (b - 128) (var_from (i + 1) s)) →
-        Inside i (i + suc (length s)) (cond t (Read b (i + 1)) (continued (b - 128) (var_from (i + 1) s)))
+        Inside i (i + suc (length s)) (cond t (numeral_of b (i + 1)) (continued (b - 128) (var_from (i + 1) s)))
     go true h = (omega arith, omega arith)
     go false h = h
 
@@ -141,7 +140,7 @@ pub record VarRead (limit : ℕ) (s : List ℕ) (i v next : ℕ) : Type 0 where
   pub after : i < next
   pub inside : next ≤ length s
 
-pub var_at_read : (limit : ℕ) (s : List ℕ) (i : ℕ) {v next : ℕ} → var_at limit s i ≡ Read v next → VarRead limit s i v next
+pub var_at_read : (limit : ℕ) (s : List ℕ) (i : ℕ) {n : Numeral} → var_at limit s i ≡ Some n → VarRead limit s i n.value n.next
 unfolding var_at
 var_at_read limit s i e =
     let below = rw e at (limited_below limit (var_from i (drop i s))) in

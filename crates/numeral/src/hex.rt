@@ -4,13 +4,6 @@ ghost use Rattle.numeral.specs.Hex.{digit_of, hex_of, hex_run_at, digit_byte, Wr
 
 use super::Numeral;
 
-// What a text is as a number.
-#[derive(Clone, Copy)]
-pub enum Number {
-    Value(u64),
-    Bad,
-}
-
 // A number's digits: the bytes from `start` on.
 #[derive(Clone, Copy)]
 pub struct Digits {
@@ -38,49 +31,44 @@ fn digit_value(b: u8) -> u64
 }
 
 // The number that the run of digits at `at` is, and the place after the run.
-pub fn hex_at(s: &[u8], at: usize) -> Numeral
+pub fn hex_at(s: &[u8], at: usize) -> Option<Numeral>
     ensures { result ≡ hex_run_at s.now at }
 {
     if s.len() <= at {
-        return Numeral::Bad;
+        return None;
     }
     let first = s[at];
     let mut value = digit_value(first);
     if value == 16 {
-        return Numeral::Bad;
+        return None;
     }
     let mut i = at + 1;
     while i < s.len() {
         let d = digit_value(s[i]);
         if d == 16 {
-            return Numeral::Read { value, next: i };
+            return Some(Numeral { value, next: i });
         }
         if first == 48 {
-            return Numeral::Bad;
+            return None;
         }
         if i - at == 16 {
-            return Numeral::Bad;
+            return None;
         }
         value = value * 16 + d;
         i += 1;
     }
-    Numeral::Read { value, next: i }
+    Some(Numeral { value, next: i })
 }
 
 // The number that the whole text is.
-pub fn read_hex(text: &[u8]) -> Number
+pub fn read_hex(text: &[u8]) -> Option<u64>
     ensures { result ≡ hex_of text.now }
 {
-    let n = hex_at(text, 0);
-    match n {
-        Numeral::Read { value, next } => {
-            if next == text.len() {
-                Number::Value(value)
-            } else {
-                Number::Bad
-            }
-        }
-        Numeral::Bad => Number::Bad,
+    let n = hex_at(text, 0)?;
+    if n.next == text.len() {
+        Some(n.value)
+    } else {
+        None
     }
 }
 

@@ -2,15 +2,11 @@ use borrow.Author.Tests.{eq-eqb, ne_eqb}
 use Rattle.numeral.specs.HexRunLaws.{hex_of_whole}
 use Rattle.numeral.proofs.hex.read_hex.Goals as goal
 
-pub returns-then-next-text : goal.returns-then-next-text
-returns-then-next-text c =
-    let n = c.hex_at-n.ensures in
-    rw (hex_of_whole _, ← n, c.in-Read.is, eq-eqb _ _ c.if-next-text.true)
+pub returns-in_err-n : goal.returns-in_err-n
+returns-in_err-n c = rw (hex_of_whole _, ← c.hex_at.ensures, c.in_err-n.was) c.from_residual.ensures
 
-pub returns-else-next-text : goal.returns-else-next-text
-returns-else-next-text c =
-    let n = c.hex_at-n.ensures in
-    rw (hex_of_whole _, ← n, c.in-Read.is, ne_eqb _ _ c.if-next-text.false)
+pub returns-then-n-text : goal.returns-then-n-text
+returns-then-n-text c = rw (hex_of_whole _, ← c.hex_at.ensures, c.in_ok-n.was, eq-eqb _ _ c.if-n-text.true)
 
-pub returns-in-Bad : goal.returns-in-Bad
-returns-in-Bad c = rw (hex_of_whole _, ← c.hex_at-n.ensures, c.in-Bad.is)
+pub returns-else-n-text : goal.returns-else-n-text
+returns-else-n-text c = rw (hex_of_whole _, ← c.hex_at.ensures, c.in_ok-n.was, ne_eqb _ _ c.if-n-text.false)
