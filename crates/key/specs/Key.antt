@@ -6,7 +6,7 @@
 --   compare_keys a b    the one comparison
 --   well_formed kind b  the bytes b are a well-formed key of the kind
 --   key_at kind s i     the key at place i of s, by the place and length of its own bytes
-use Rattle.std.specs.Prelude.{ℕ, ◌+◌, Bool, cond, ◌&&◌, List, eqb, leb, ℤ, length, take, drop}
+use Rattle.std.specs.Prelude.{ℕ, ◌+◌, Bool, cond, ◌&&◌, List, eqb, leb, ℤ, length, take, drop, Option, Some, None}
 use Rattle.std.specs.Int.{w64}
 use Rattle.std.proofs.Common.{to_z}
 use Rattle.text.specs.Text.{every, is_printable}
@@ -17,8 +17,7 @@ use Rattle.order.specs.Order.{compare_nat, compare_int, lex}
 use Rattle.key.specs.declared.Kind.{Kind}
 use Rattle.key.specs.declared.Kind.TheVariants.{Number, Text}
 use Rattle.key.specs.declared.sized.Sized.{Sized}
-use Rattle.key.specs.declared.sized.Sized.TheVariants.{At, Bad}
-use Rattle.key.specs.Sized.{sized_at}
+use Rattle.key.specs.Sized.{sized_of, sized_at}
 
 pub data Key : Type 0 where
   number : ℤ → Key
@@ -45,10 +44,10 @@ well_formed Number b = eqb (length b) 8
 well_formed Text b = leb (length b) 1024 && every is_printable b
 
 -- bytes 32 to 126 throughout
-abbrev pub printable : List ℕ → Sized → Sized
-printable s Bad = Bad
-printable s (At at n next) = cond (every is_printable (take n (drop at s))) (At at n next) Bad
+abbrev pub printable : List ℕ → Option Sized → Option Sized
+printable s None = None
+printable s (Some k) = cond (every is_printable (take k.spot.len (drop k.spot.at s))) (Some k) None
 
-unfoldable pub key_at : Kind → List ℕ → ℕ → Sized
-key_at Number s i = cond (leb (i + 8) (length s)) (At i 8 (i + 8)) Bad
+unfoldable pub key_at : Kind → List ℕ → ℕ → Option Sized
+key_at Number s i = cond (leb (i + 8) (length s)) (sized_of i 8 (i + 8)) None
 key_at Text s i = printable s (sized_at 1025 s i)

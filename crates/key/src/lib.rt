@@ -13,9 +13,10 @@ ghost use Rattle.key.specs.Raised.{raised};
 
 use numeral::be64;
 use std::cmp::Ordering;
+use text::Spot;
 pub use sized::{Sized, sized_at};
 
-#[derive(Clone, Copy)]
+#[derive(Clone, Copy, Debug, PartialEq, Eq)]
 pub enum Kind {
     Number,
     Text,
@@ -25,48 +26,32 @@ pub enum Kind {
 pub const TEXT_LIMIT: u64 = 1025;
 
 // A number key at `at`: 8 bytes.
-pub fn number_at(s: &[u8], at: usize) -> Sized
+pub fn number_at(s: &[u8], at: usize) -> Option<Sized>
     ensures { result ≡ key_at Kind.Number s.now at }
 {
-    if s.len() < 8 {
-        return Sized::Bad;
+    let next = at.checked_add(8)?;
+    if s.len() < next {
+        return None;
     }
-    if s.len() - 8 < at {
-        return Sized::Bad;
-    }
-    Sized::At {
-        at,
-        len: 8,
-        next: at + 8,
-    }
+    Some(Sized {
+        spot: Spot { at, len: 8 },
+        next,
+    })
 }
 
 // A text key at `at`: its length, and bytes 32 to 126.
-fn text_at(s: &[u8], at: usize) -> Sized
+fn text_at(s: &[u8], at: usize) -> Option<Sized>
     ensures { result ≡ key_at Kind.Text s.now at }
 {
-    let item = sized_at(s, at, TEXT_LIMIT);
-    let Sized::At {
-        at: first,
-        len,
-        next,
-    } = item
-    else {
-        return Sized::Bad;
-    };
-    if text::all_printable(&s[first..next]) {
-        Sized::At {
-            at: first,
-            len,
-            next,
-        }
-    } else {
-        Sized::Bad
+    let key = sized_at(s, at, TEXT_LIMIT)?;
+    if !text::all_printable(&s[key.spot.at..key.next]) {
+        return None;
     }
+    Some(key)
 }
 
 // The key of a kind at `at`: where its own bytes stand, and the place after it.
-pub fn key_at(s: &[u8], kind: Kind, at: usize) -> Sized
+pub fn key_at(s: &[u8], kind: Kind, at: usize) -> Option<Sized>
     ensures { result ≡ key_at kind s.now at }
 {
     match kind {
@@ -81,49 +66,15 @@ pub fn well_formed(kind: Kind, key: &[u8]) -> bool
 {
     match kind {
         Kind::Number => key.len() == 8,
-        Kind::Text => {
-            if 1024 < key.len() {
-                return false;
-            }
-            text::all_printable(key)
-        }
+        Kind::Text => key.len() <= 1024 && text::all_printable(key),
     }
 }
 
-// Number keys are kept as their 64 bits. Raised by 2^63 they are in the order of the signed numbers.
-fn raise(bits: u64) -> u64
-    ensures { result ≡ raised bits }
-{
-    if bits < 9223372036854775808 {
-        bits + 9223372036854775808
-    } else {
-        bits - 9223372036854775808
-    }
-}
-
-// The signed number that 64 bits are: below zero it is the complement of the complement.
-pub fn signed(bits: u64) -> i64
-    ensures { result ≡ to_z w64 bits }
-{
-    if bits < 9223372036854775808 {
-        return bits as i64;
-    }
-    !((18446744073709551615 - bits) as i64)
-}
-
-// Two number keys by their 64 bits.
+// Two number keys by their 64 bits, which are those of signed numbers.
 pub fn compare_numbers(a: u64, b: u64) -> Ordering
     ensures { result ≡ compare_int (to_z w64 a) (to_z w64 b) }
 {
-    let x = raise(a);
-    let y = raise(b);
-    if x < y {
-        return Ordering::Less;
-    }
-    if y < x {
-        return Ordering::Greater;
-    }
-    Ordering::Equal
+    a.cast_signed().cmp(&b.cast_signed())
 }
 
 // How two keys of a kind, given as their bytes, compare.

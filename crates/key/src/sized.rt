@@ -2,30 +2,26 @@
 ghost use Rattle.std.specs.Prelude.{◌≡◌};
 ghost use Rattle.key.specs.Sized.{sized_at};
 
-use numeral::Numeral;
+use text::Spot;
 
-// Where the bytes stand, how many they are, and the place after them.
-#[derive(Clone, Copy)]
-pub enum Sized {
-    At { at: usize, len: usize, next: usize },
-    Bad,
+// Where the bytes stand, and the place after them.
+#[derive(Clone, Copy, Debug, PartialEq, Eq)]
+pub struct Sized {
+    pub spot: Spot,
+    pub next: usize,
 }
 
 // A variable-size length below `limit` at `at`, and as many bytes.
-pub fn sized_at(s: &[u8], at: usize, limit: u64) -> Sized
+pub fn sized_at(s: &[u8], at: usize, limit: u64) -> Option<Sized>
     ensures { result ≡ sized_at limit s.now at }
 {
-    let n = numeral::read_var(s, at, limit);
-    let Numeral::Read { value, next } = n else {
-        return Sized::Bad;
-    };
-    let len = value as usize;
-    if s.len() - next < len {
-        return Sized::Bad;
+    let n = numeral::read_var(s, at, limit)?;
+    let len = n.value as usize;
+    if s.len() - n.next < len {
+        return None;
     }
-    Sized::At {
-        at: next,
-        len,
-        next: next + len,
-    }
+    Some(Sized {
+        spot: Spot { at: n.next, len },
+        next: n.next + len,
+    })
 }

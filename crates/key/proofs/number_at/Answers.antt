@@ -1,18 +1,25 @@
 use lib.ListN.{length}
 use native.Mathlib.Omega.{arith}
 use borrow.Author.Tests.{le-leb, lt-leb}
-use Prim.Native.Nat.{◌+◌}
+use Prim.Native.Nat.{◌+◌, ◌<◌, ◌≤◌}
+use Rattle.std.proofs.Common.{◌≡◌}
 use Rattle.key.specs.Key.{key_at}
 use Rattle.key.proofs.number_at.Goals as goal
 
-pub returns-then-s-lt8 : goal.returns-then-s-lt8
+pub returns-in_err-next : goal.returns-in_err-next
 unfolding key_at
-returns-then-s-lt8 c = rw (lt-leb (c.args.at + 8) (length c.args.s.now) (omega arith))
+returns-in_err-next c =
+    let past = c.in_err-next.ensures in
+    rw (lt-leb (c.args.at + 8) (length c.args.s.now) (omega arith)) c.from_residual.ensures
 
-pub returns-then-s-at : goal.returns-then-s-at
+pub returns-then-s-next : goal.returns-then-s-next
 unfolding key_at
-returns-then-s-at c = rw (lt-leb (c.args.at + 8) (length c.args.s.now) (omega arith))
+returns-then-s-next c =
+    let sum = c.in_ok-next.ensures in
+    rw (lt-leb (c.args.at + 8) (length c.args.s.now) (omega arith))
 
 pub returns : goal.returns
 unfolding key_at
-returns c = rw (le-leb (c.args.at + 8) (length c.args.s.now) (omega arith))
+returns c =
+    let sum = c.in_ok-next.ensures in
+    rw (sum.1, le-leb (c.args.at + 8) (length c.args.s.now) (omega arith))

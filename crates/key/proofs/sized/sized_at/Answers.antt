@@ -7,24 +7,19 @@ use Rattle.numeral.specs.VarLaws.{var_at_read}
 use Rattle.key.specs.Sized.{sized_at}
 use Rattle.key.proofs.sized.sized_at.Goals as goal
 
-pub returns-in_default : goal.returns-in_default
+pub returns-in_err-n : goal.returns-in_err-n
 unfolding sized_at
-returns-in_default c = rw (← c.read_var-n.ensures, c.in_default.is)
+returns-in_err-n c = rw (← c.read_var.ensures, c.in_err-n.was) c.from_residual.ensures
 
 pub overflow_sub-s : goal.overflow_sub-s
-overflow_sub-s c =
-    let a = c.args in
-    let read = var_at_read a.limit a.s.now a.at (sym c.read_var-n.ensures ∙ c.in-Read.is) in
-    omega (arith, read.inside, read.after)
+overflow_sub-s c = omega (arith, (var_at_read c.args.limit c.args.s.now c.args.at (sym c.read_var.ensures ∙ c.in_ok-n.was)).inside)
 
-pub returns-then-s-next : goal.returns-then-s-next
+pub returns-then-s-n : goal.returns-then-s-n
 unfolding sized_at
-returns-then-s-next c =
-    let a = c.args in
-    rw (← c.read_var-n.ensures, c.in-Read.is, lt-leb (c.in-Read.next + c.in-Read.value) (length a.s.now) (omega arith))
+returns-then-s-n c = rw (← c.read_var.ensures, c.in_ok-n.was, lt-leb (c.in_ok-n.n.next + c.in_ok-n.n.value) (length c.args.s.now) (omega arith))
 
 pub returns : goal.returns
 unfolding sized_at
 returns c =
-    let a = c.args in
-    rw (← c.read_var-n.ensures, c.in-Read.is, le-leb (c.in-Read.next + c.in-Read.value) (length a.s.now) (omega (arith, (var_at_read a.limit a.s.now a.at (sym c.read_var-n.ensures ∙ c.in-Read.is)).inside)))
+    let read = var_at_read c.args.limit c.args.s.now c.args.at (sym c.read_var.ensures ∙ c.in_ok-n.was) in
+    rw (← c.read_var.ensures, c.in_ok-n.was, le-leb (c.in_ok-n.n.next + c.in_ok-n.n.value) (length c.args.s.now) (omega (arith, read.inside)))
