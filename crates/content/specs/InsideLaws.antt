@@ -3,14 +3,14 @@
 --   Inside s p        the bytes at the spot p all stand in s
 --   EntryIn s kind x  the entry's key and value do, and its key is the one that stands there
 use Prim.Native.Nat.{ℕ, zero, suc, ◌+◌, ◌≤◌}
-use Rattle.std.specs.Prelude.{◌≡◌, length, take, drop}
+use Rattle.std.specs.Prelude.{◌≡◌, length, take, drop, Option, Some, None, Ok, Err}
 use Rattle.std.proofs.Math.Path.{refl, ap}
 use Rattle.std.proofs.Common.{◌∙◌, arith, take-take}
 use mathlib.Core.List.{List, [], ◌∷◌}
 use Rattle.std.proofs.Math.ListN.{length-take}
+use Rattle.refusal.specs.Refusal.{Outcome}
 use Rattle.key.specs.declared.Kind.{Kind}
 use Rattle.key.specs.declared.sized.Sized.{Sized}
-use Rattle.key.specs.declared.sized.Sized.TheVariants.{At, Bad}
 use Rattle.key.specs.Key.{Key, key_of}
 use Rattle.tree.specs.Page.{All}
 use Rattle.tree.proofs.ListLaws.{all_imp}
@@ -21,7 +21,7 @@ use Rattle.item.specs.Step.{got, bad, on_step, up_to}
 use Rattle.item.specs.Item.{Spot, on_sized, item_at, items}
 use Rattle.item.specs.ItemLaws.{item_lies}
 use Rattle.page.specs.declared.Judged.{Judged}
-use Rattle.page.specs.declared.Judged.TheVariants.{Refused, Leaf, Inner}
+use Rattle.page.specs.declared.Judged.TheVariants.{Leaf, Inner}
 use Rattle.page.specs.Judged.{key_form}
 use Rattle.content.specs.Content.{Entry, key_in, paired, entries_in, page_of}
 
@@ -39,12 +39,12 @@ module _ (s : List ℕ) where
   items_inside f zero i = tt
   items_inside f (suc n) i = go (λ j. items_inside f n j) (item_at s f i) refl
     where
-      go : ((j : ℕ) → All (Inside s) (up_to (items s f) n j)) → (it : Sized) → item_at s f i ≡ it
+      go : ((j : ℕ) → All (Inside s) (up_to (items s f) n j)) → (it : Option Sized) → item_at s f i ≡ it
           → All (Inside s) (on_step (on_sized it bad (λ at len next. got (record { at = at; len = len }) next)) [] (λ a d. a ∷ up_to (items s f) n d))
-      go ih (At at len next) q =
+      go ih (Some k) q =
           let l = item_lies s f i q in
-          (omega (arith, l.ends, l.inside), ih next)
-      go ih Bad q = tt
+          (omega (arith, l.ends, l.inside), ih k.next)
+      go ih None q = tt
 
   paired_in : (kind : Kind) (ks vs : List Spot) → All (Inside s) ks → All (Inside s) vs → All (EntryIn s kind) (paired s kind ks vs)
   unfolding paired
@@ -74,8 +74,9 @@ module _ (image : List ℕ) (kind : Kind) where
     key_there = h.key_there ∙ ap (key_of kind) (part_cut x.1.key.at x.1.key.len e image (omega (arith, length-take e image, h.key_inside)));
   }
 
-  pub page_in_lem : (j : Judged) → InLeaf (EntryIn image kind) (page_of image kind j)
+  pub page_in_lem : (j : Outcome Judged) → InLeaf (EntryIn image kind) (page_of image kind j)
   unfolding page_of
-  page_in_lem (Refused r) = tt
-  page_in_lem (Leaf n keys values e) = all_imp (cut_in e) (entries_in (take e image) kind n keys values) (entries_in_lem (take e image) kind n keys values)
-  page_in_lem (Inner n positions counts keys e total) = tt
+  page_in_lem (Err r) = tt
+  page_in_lem (Ok (Leaf p)) =
+      all_imp (cut_in p.end) (entries_in (take p.end image) kind p.n p.keys p.values) (entries_in_lem (take p.end image) kind p.n p.keys p.values)
+  page_in_lem (Ok (Inner p)) = tt

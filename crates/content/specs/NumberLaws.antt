@@ -2,23 +2,20 @@
 --
 --   entry_of k v  the entry with the key k and the value v
 use Prim.Native.Nat.{ℕ, zero, suc, ◌+◌, ◌*◌, ◌≤◌, ◌<◌}
-use Rattle.std.specs.Prelude.{◌≡◌, Bool, true, false, leb, length, None, Option, Some, slice_get}
+use Rattle.std.specs.Prelude.{◌≡◌, Bool, true, false, leb, length, None, Option, Some, slice_get, option_map}
 use Rattle.std.proofs.Math.Path.{refl}
-use Rattle.std.proofs.Common.{◌∙◌, ap, arith, leb-true, leb-false}
+use Rattle.std.proofs.Common.{sym, ◌∙◌, ap, arith, leb-true, leb-false}
 use mathlib.Core.List.{List, [], ◌∷◌, map}
 use Rattle.std.proofs.Math.ListN.{get_or}
 use Rattle.numeral.specs.BigEndian.{big_endian_at}
+use Rattle.numeral.specs.BigEndianLaws.{big_endian_at_past}
 use Rattle.key.specs.declared.Kind.{Kind}
 use Rattle.item.specs.declared.Form.TheVariants.{Word}
 use Rattle.item.specs.Step.{Step, got, bad, on_step, up_to}
 use Rattle.item.specs.StepLaws.{up_to_bad}
-use Rattle.item.specs.declared.Numbered.{Numbered}
-use Rattle.item.specs.declared.Numbered.TheVariants as numbered
-use Rattle.item.specs.Item.{Spot, items, numbered_of}
+use Rattle.item.specs.Item.{Spot, items}
 use Rattle.item.specs.ItemLaws.{word_fits, word_bad}
-use Rattle.content.specs.declared.Nth.{Nth}
-use Rattle.content.specs.declared.Nth.TheVariants as nth
-use Rattle.content.specs.Content.{positions_in, paired, nth_of}
+use Rattle.content.specs.Content.{Entry, positions_in, paired}
 
 -- ## The position of a child
 module _ (s : List ℕ) where
@@ -56,20 +53,30 @@ module _ (s : List ℕ) where
       go true e ih = rw (positions_more n i (leb-true (i + 8) (length s) e)) ih
       go false e ih = rw (positions_bad (suc n) i (leb-false (i + 8) (length s) e))
 
+  -- a position that does not stand whole reads as 0
+  pub position_of : (n i k : ℕ) → k < n → get_or (positions_in s n i) k 0 ≡ big_endian_at 8 s (i + 8 * k)
+  position_of n i k h = go (leb (i + 8 * k + 8) (length s)) refl
+    where
+      go : (t : Bool) → leb (i + 8 * k + 8) (length s) ≡ t → get_or (positions_in s n i) k 0 ≡ big_endian_at 8 s (i + 8 * k)
+      go true e = position_at n i k h (leb-true (i + 8 * k + 8) (length s) e)
+      go false e =
+          let past = leb-false (i + 8 * k + 8) (length s) e in
+          position_out n i k past ∙ sym (big_endian_at_past 8 s (i + 8 * k) past)
+
 -- ## An entry
-abbrev pub entry_of : Numbered → Numbered → Nth
-entry_of (numbered.At key size) (numbered.At at len) = nth.Entry key size at len
-entry_of (numbered.At key size) numbered.Out = nth.Out
-entry_of numbered.Out v = nth.Out
+abbrev pub entry_of : Option Spot → Option Spot → Option Entry
+entry_of (Some k) (Some v) = Some (record { key = k; value = v })
+entry_of (Some k) None = None
+entry_of None v = None
 
 pub paired_nth : (s : List ℕ) (kind : Kind) (ks vs : List Spot) (k : ℕ)
-    → nth_of (slice_get (paired s kind ks vs) k) ≡ entry_of (numbered_of (slice_get ks k)) (numbered_of (slice_get vs k))
+    → option_map (λ e. e.1) (slice_get (paired s kind ks vs) k) ≡ entry_of (slice_get ks k) (slice_get vs k)
 unfolding paired
 paired_nth s kind [] vs k = refl
 paired_nth s kind (a ∷ ks) [] zero = refl
 paired_nth s kind (a ∷ ks) [] (suc k) = go (slice_get ks k)
   where
-    go : (o : Option Spot) → nth.Out ≡ entry_of (numbered_of o) numbered.Out
+    go : (o : Option Spot) → None ≡ entry_of o None
     go (Some x) = refl
     go None = refl
 paired_nth s kind (a ∷ ks) (b ∷ vs) zero = refl

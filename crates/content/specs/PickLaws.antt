@@ -11,7 +11,7 @@ use Rattle.std.proofs.Math.Bool.{true, false}
 use Rattle.std.proofs.Math.Nat.{add-zero}
 use Rattle.std.proofs.Math.Seq.{drop-drop}
 use Rattle.refusal.specs.Refusal.{Outcome, bad_index}
-use Rattle.numeral.specs.declared.Numeral.TheVariants.{Read, Bad}
+use Rattle.numeral.specs.declared.Numeral.{Numeral}
 use Rattle.numeral.specs.Var.{var_at}
 use Rattle.item.specs.Step.{up_to}
 use Rattle.item.specs.StepLaws.{up_to_more, up_to_bad}
@@ -38,25 +38,25 @@ module _ (s : List ℕ) (n i sum j rest : ℕ) where
       go zero l = refl
       go (suc m) l = absurd (omega arith)
 
-  pub pick_bad : var_at count_limit s i ≡ Bad → pick_from s n i sum j rest ≡ None
+  pub pick_bad : var_at count_limit s i ≡ None → pick_from s n i sum j rest ≡ None
   unfolding pick_from pick
   pick_bad e = rw (up_to_bad (count_at s) n (i, sum) (count_bad s i sum e))
 
-  module _ {v next : ℕ} (e : var_at count_limit s i ≡ Read v next) where
-    pub pick_over : count_limit ≤ sum + v → pick_from s n i sum j rest ≡ None
+  module _ {c : Numeral} (e : var_at count_limit s i ≡ Some c) where
+    pub pick_over : count_limit ≤ sum + c.value → pick_from s n i sum j rest ≡ None
     unfolding pick_from pick
     pick_over h = rw (up_to_bad (count_at s) n (i, sum) (count_over s i sum e h))
 
-    module _ (h : 0 < n) (l : sum + v < count_limit) where
-      pick_more : pick_from s n i sum j rest ≡ cond (ltb rest v) (Some (j, rest)) (pick_from s (n - 1) next (sum + v) (j + 1) (rest - v))
+    module _ (h : 0 < n) (l : sum + c.value < count_limit) where
+      pick_more : pick_from s n i sum j rest ≡ cond (ltb rest c.value) (Some (j, rest)) (pick_from s (n - 1) c.next (sum + c.value) (j + 1) (rest - c.value))
       unfolding pick_from pick
       pick_more = rw (up_to_more (count_at s) n (i, sum) h (count_at_lem s i sum e l))
 
-      pub pick_here : rest < v → pick_from s n i sum j rest ≡ Some (j, rest)
-      pick_here f = pick_more ∙ rw (lt-ltb rest v f)
+      pub pick_here : rest < c.value → pick_from s n i sum j rest ≡ Some (j, rest)
+      pick_here f = pick_more ∙ rw (lt-ltb rest c.value f)
 
-      pub pick_on : v ≤ rest → pick_from s n i sum j rest ≡ pick_from s (n - 1) next (sum + v) (j + 1) (rest - v)
-      pick_on f = pick_more ∙ rw (le-ltb rest v f)
+      pub pick_on : c.value ≤ rest → pick_from s n i sum j rest ≡ pick_from s (n - 1) c.next (sum + c.value) (j + 1) (rest - c.value)
+      pick_on f = pick_more ∙ rw (le-ltb rest c.value f)
 
 -- ## The tree's index takes the same child
 module _ {E : Type 0} (child : ℕ → ℕ → Outcome E) (ps : List ℕ) where

@@ -4,7 +4,7 @@
 --   Whole image kind j       the same of what a page was judged to be
 --   children_in s kind n ..  the children of an inner page, by the places of its parts
 use Prim.Native.Nat.{ℕ, zero, suc, ◌+◌, ◌^◌, ◌≤◌, ◌<◌}
-use Rattle.std.specs.Prelude.{◌≡◌, take, None, Ok, Option, Some}
+use Rattle.std.specs.Prelude.{◌≡◌, take, None, Ok, Option, Some, Err}
 use Rattle.std.proofs.Math.Path.{refl, ap}
 use Rattle.std.proofs.Common.{◌∙◌, true≢false}
 use mathlib.Core.List.{List, [], ◌∷◌, map}
@@ -20,14 +20,16 @@ use Rattle.tree.specs.Asking.{index_children}
 use Rattle.tree.specs.InnerPage.{children_of, sum}
 use Rattle.tree.proofs.ChildrenLaws.{total_children_of}
 use Rattle.item.specs.declared.Form.TheVariants.{Word, Bytes}
-use Rattle.item.specs.declared.Counted.TheVariants as sums
+use Rattle.item.specs.declared.Counted.{Counted}
 use Rattle.item.specs.Step.{Step, got, bad, on_step, after, up_to}
 use Rattle.item.specs.StepLaws.{up_to-length}
 use Rattle.item.specs.Item.{Spot, count_limit, items, count_at, counted_of, counted}
 use Rattle.item.specs.ItemLaws.{skipped_length}
 use Rattle.item.specs.CountLaws.{count_sum}
 use Rattle.page.specs.declared.Judged.{Judged}
-use Rattle.page.specs.declared.Judged.TheVariants.{Refused, Leaf, Inner}
+use Rattle.page.specs.declared.Judged.TheVariants as judged
+use Rattle.page.specs.declared.Leaf.{Leaf}
+use Rattle.page.specs.declared.Inner.{Inner}
 use Rattle.page.specs.Judged.{key_form, judged_at}
 use Rattle.page.specs.PassedLaws.{LeafPassed, InnerPassed, Passed, judged_passed}
 use Rattle.content.specs.Content.{Entry, key_in, keys_in, positions_in, counts_in, paired, entries_in, page_of, page_in, pick}
@@ -45,10 +47,10 @@ pub record InnerWhole (s : List ℕ) (kind : Kind) (n positions counts keys tota
   pub sum_total : sum (counts_in s (n + 1) counts) ≡ total
   pub below : total < count_limit
 
-abbrev pub Whole : List ℕ → Kind → Judged → Type 0
-Whole image kind (Refused r) = Unit {0}
-Whole image kind (Leaf n keys values e) = LeafWhole (take e image) kind n keys values
-Whole image kind (Inner n positions counts keys e total) = InnerWhole (take e image) kind n positions counts keys total
+abbrev pub Whole : List ℕ → Kind → Outcome Judged → Type 0
+Whole image kind (Err r) = Unit {0}
+Whole image kind (Ok (judged.Leaf p)) = LeafWhole (take p.end image) kind p.n p.keys p.values
+Whole image kind (Ok (judged.Inner p)) = InnerWhole (take p.end image) kind p.n p.positions p.counts p.keys p.total
 
 -- ## Of a leaf
 paired_length : (s : List ℕ) (kind : Kind) (n : ℕ) (ks vs : List Spot) → length ks ≡ n → length vs ≡ n → length (paired s kind ks vs) ≡ n
@@ -58,11 +60,11 @@ paired_length s kind n (x ∷ ks) [] h k = absurd (omega arith)
 paired_length s kind zero (x ∷ ks) (y ∷ vs) h k = absurd (omega arith)
 paired_length s kind (suc n) (x ∷ ks) (y ∷ vs) h k = ap suc (paired_length s kind n ks vs (omega arith) (omega arith))
 
-leaf_whole : (s : List ℕ) (kind : Kind) (n keys values : ℕ) {e : ℕ} → LeafPassed s kind n keys values e → LeafWhole s kind n keys values
+leaf_whole : (s : List ℕ) (kind : Kind) (l : Leaf) → LeafPassed s kind l → LeafWhole s kind l.n l.keys l.values
 unfolding entries_in
-leaf_whole s kind n keys values p = record {
+leaf_whole s kind l p = record {
   few = p.few;
-  all_entries = paired_length s kind n _ _ (skipped_length s (key_form kind) n keys p.key_items) (skipped_length s Bytes n values p.value_items);
+  all_entries = paired_length s kind l.n _ _ (skipped_length s (key_form kind) l.n l.keys p.key_items) (skipped_length s Bytes l.n l.values p.value_items);
 }
 
 up_to_few : {A C : Type 0} (read : C → Step A C) (n : ℕ) (c : C) → length (up_to read n c) ≤ n
@@ -112,29 +114,29 @@ module _ (s : List ℕ) where
           (omega arith, rest.1)
       go ih bad q k = absurd (true≢false cc)
 
-  counted_whole : (n i : ℕ) {total next : ℕ} → counted s n i ≡ sums.Sum total next
-      → (length (counts_in s n i) ≡ n) × (sum (counts_in s n i) ≡ total) × (total < count_limit)
+  counted_whole : (n i : ℕ) {m : Counted} → counted s n i ≡ Some m
+      → (length (counts_in s n i) ≡ n) × (sum (counts_in s n i) ≡ m.total) × (m.total < count_limit)
   unfolding counted counts_in
-  counted_whole n i {total} {next} e = go (after (count_at s) n (i, 0)) refl e
+  counted_whole n i {m} e = go (after (count_at s) n (i, 0)) refl e
     where
-      go : (o : Option (ℕ × ℕ)) → after (count_at s) n (i, 0) ≡ o → counted_of o ≡ sums.Sum total next
-          → (length (up_to (count_at s) n (i, 0)) ≡ n) × (sum (up_to (count_at s) n (i, 0)) ≡ total) × (total < count_limit)
+      go : (o : Option (ℕ × ℕ)) → after (count_at s) n (i, 0) ≡ o → counted_of o ≡ Some m
+          → (length (up_to (count_at s) n (i, 0)) ≡ n) × (sum (up_to (count_at s) n (i, 0)) ≡ m.total) × (m.total < count_limit)
       go (Some d) q h =
-          let f : d.1 ≡ total = cc in
+          let same : record { total = d.1; next = d.0 } ≡ m = cc in
+          let f : d.1 ≡ m.total = ap (λ (x : Counted). x.total) same in
           let r = counts_sum n (i, 0) (omega arith) q in
           (up_to-length (count_at s) n (i, 0) q, omega arith, omega arith)
       go None q h = absurd (true≢false cc)
 
-  inner_whole : (kind : Kind) (n positions counts keys : ℕ) {e total : ℕ} → InnerPassed s kind n positions counts keys e total
-      → InnerWhole s kind n positions counts keys total
+  inner_whole : (kind : Kind) (q : Inner) → InnerPassed s kind q → InnerWhole s kind q.n q.positions q.counts q.keys q.total
   unfolding positions_in keys_in
-  inner_whole kind n positions counts keys p =
-      let sums = counted_whole (n + 1) counts p.count_items in
+  inner_whole kind q p =
+      let sums = counted_whole (q.n + 1) q.counts p.count_items in
       record {
         few = p.few;
-        all_positions = length-map (up_to (items s Word) (n + 1) positions) _ ∙ skipped_length s Word (n + 1) positions p.position_items;
+        all_positions = length-map (up_to (items s Word) (q.n + 1) q.positions) _ ∙ skipped_length s Word (q.n + 1) q.positions p.position_items;
         all_counts = sums.0;
-        all_keys = length-map (up_to (items s (key_form kind)) n keys) _ ∙ skipped_length s (key_form kind) n keys p.key_items;
+        all_keys = length-map (up_to (items s (key_form kind)) q.n q.keys) _ ∙ skipped_length s (key_form kind) q.n q.keys p.key_items;
         sum_total = sums.1;
         below = sums.2;
       }
@@ -143,10 +145,10 @@ module _ (s : List ℕ) where
 pub judged_whole : (image : List ℕ) (c : Place) (p map : ℕ) (kind : Kind) → Whole image kind (judged_at image c p map kind)
 judged_whole image c p map kind = go (judged_at image c p map kind) (judged_passed image kind c p map)
   where
-    go : (j : Judged) → Passed image kind j → Whole image kind j
-    go (Refused r) h = tt
-    go (Leaf n keys values e) h = leaf_whole (take e image) kind n keys values h
-    go (Inner n positions counts keys e total) h = inner_whole (take e image) kind n positions counts keys h
+    go : (j : Outcome Judged) → Passed image kind j → Whole image kind j
+    go (Err r) h = tt
+    go (Ok (judged.Leaf l)) h = leaf_whole (take l.end image) kind l h
+    go (Ok (judged.Inner q)) h = inner_whole (take q.end image) kind q h
 
 -- ## What the tree needs to know of a page
 abbrev pub children_in : List ℕ → Kind → ℕ → ℕ → ℕ → ℕ → Children Key
@@ -172,20 +174,20 @@ module _ (image : List ℕ) (c : Place) (p map : ℕ) (kind : Kind) where
   unfolding page_in page_of
   leaf_below {es} e = go (judged_at image c p map kind) (judged_whole image c p map kind) e
     where
-      go : (j : Judged) → Whole image kind j → page_of image kind j ≡ Ok (leaf es) → length es < 2 ^ 31
-      go (Refused r) w q = absurd (true≢false cc)
-      go (Leaf n keys values e) w q =
-          let f : entries_in (take e image) kind n keys values ≡ es = cc in
+      go : (j : Outcome Judged) → Whole image kind j → page_of image kind j ≡ Ok (leaf es) → length es < 2 ^ 31
+      go (Err r) w q = cc
+      go (Ok (judged.Leaf l)) w q =
+          let f : entries_in (take l.end image) kind l.n l.keys l.values ≡ es = cc in
           omega (arith, w.few, w.all_entries, ap length f)
-      go (Inner n positions counts keys e total) w q = absurd (true≢false cc)
+      go (Ok (judged.Inner y)) w q = cc
 
   pub inner_below : {cs : Children Key} → page_in image c p map kind ≡ Ok (inner cs) → total cs < 2 ^ 48
   unfolding page_in page_of
   inner_below {cs} e = go (judged_at image c p map kind) (judged_whole image c p map kind) e
     where
-      go : (j : Judged) → Whole image kind j → page_of image kind j ≡ Ok (inner cs) → total cs < 2 ^ 48
-      go (Refused r) w q = absurd (true≢false cc)
-      go (Leaf n keys values e) w q = absurd (true≢false cc)
-      go (Inner n positions counts keys e sum) w q =
-          let f : children_in (take e image) kind n positions counts keys ≡ cs = cc in
+      go : (j : Outcome Judged) → Whole image kind j → page_of image kind j ≡ Ok (inner cs) → total cs < 2 ^ 48
+      go (Err r) w q = cc
+      go (Ok (judged.Leaf l)) w q = cc
+      go (Ok (judged.Inner y)) w q =
+          let f : children_in (take y.end image) kind y.n y.positions y.counts y.keys ≡ cs = cc in
           omega (arith, w.below, total_whole w, ap total f)

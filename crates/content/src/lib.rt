@@ -2,167 +2,141 @@
 // keys. `s` is the image up to the page's end (`page::cut`), so that places in it are places in the image.
 #![tactic(auto)]
 
-mod numbers;
-mod texts;
-
-ghost use Rattle.std.specs.Prelude.{◌≡◌, ◌+◌, get_or, slice_get};
+ghost use Rattle.std.specs.Prelude.{◌≡◌, ◌+◌, get_or, slice_get, option_map};
 ghost use Rattle.key.specs.Key.{key_of, compare_keys};
 ghost use Rattle.tree.specs.Asking.{find_in};
 ghost use Rattle.tree.specs.InnerPage.{lead};
 ghost use Rattle.position.specs.Position.{of_bits};
-ghost use Rattle.content.specs.Content.{keys_in, entries_in, positions_in, counts_in, pick, probe_at, found_of, picked_of, nth_of};
+ghost use Rattle.content.specs.Content.{keys_in, entries_in, positions_in, counts_in, pick, probe_at, picked_of};
 
-use item::{Form, Numbered};
-use key::{Kind, Sized};
-use numeral::Numeral;
-use std::cmp::Ordering;
+use item::Form;
+use key::Kind;
+use page::{Inner, Leaf};
 use position::Position;
+use std::cmp::Ordering;
+use text::Spot;
 
-// A key against a given one: not greater, and whether it is equal, with the place after it; or
-// greater, or no key.
-#[derive(Clone, Copy)]
-pub enum Probe {
-    UpTo { next: usize, same: bool },
-    Stop,
-}
-
-// A value by place and length.
-#[derive(Clone, Copy)]
-pub enum Found {
-    At { at: usize, len: usize },
-    Absent,
+// A key that is not greater than a given one: whether it is equal, and the place after it.
+#[derive(Clone, Copy, Debug, PartialEq, Eq)]
+pub struct Probe {
+    pub next: usize,
+    pub same: bool,
 }
 
 // A child by its number, and what is left of the index under it.
-#[derive(Clone, Copy)]
-pub enum Picked {
-    Child { number: u32, rest: u64 },
-    Over,
+#[derive(Clone, Copy, Debug, PartialEq, Eq)]
+pub struct Picked {
+    pub number: u32,
+    pub rest: u64,
 }
 
 // An entry: its key and its value by place and length.
-#[derive(Clone, Copy)]
-pub enum Nth {
-    Entry {
-        key: usize,
-        size: usize,
-        at: usize,
-        len: usize,
-    },
-    Out,
+#[derive(Clone, Copy, Debug, PartialEq, Eq)]
+pub struct Entry {
+    pub key: Spot,
+    pub value: Spot,
 }
 
-pub fn probe_key(s: &[u8], kind: Kind, i: usize, key: &[u8]) -> Probe
+// The key at `i` against a given one; nothing where it is greater, or no key.
+pub fn probe_key(s: &[u8], kind: Kind, i: usize, key: &[u8]) -> Option<Probe>
     ensures { result ≡ probe_at s.now kind i (key_of kind key.now) }
 {
-    let it = item::item_at(s, page::key_form(kind), i);
-    let Sized::At { at, len: _, next } = it else {
-        return Probe::Stop;
-    };
-    let o = key::compare(kind, &s[at..next], key);
+    let item = item::item_at(s, page::key_form(kind), i)?;
+    let next = item.next;
+    let o = key::compare(kind, &s[item.spot.at..next], key);
     match o {
-        Ordering::Less => Probe::UpTo { next, same: false },
-        Ordering::Equal => Probe::UpTo { next, same: true },
-        Ordering::Greater => Probe::Stop,
+        Ordering::Less => Some(Probe { next, same: false }),
+        Ordering::Equal => Some(Probe { next, same: true }),
+        Ordering::Greater => None,
     }
 }
 
 // How many leading keys, up to the first greater one, are not greater than the key.
-pub fn lead_keys(s: &[u8], kind: Kind, n: u32, keys: usize, key: &[u8]) -> u32
-    ensures { result ≡ lead compare_keys (key_of kind key.now) (keys_in s.now kind n keys) }
+pub fn lead_keys(s: &[u8], kind: Kind, page: Inner, key: &[u8]) -> u32
+    ensures { result ≡ lead compare_keys (key_of kind key.now) (keys_in s.now kind page.n page.keys) }
 {
-    match kind {
-        Kind::Number => numbers::lead_numbers(s, n, keys, key),
-        Kind::Text => texts::lead_texts(s, n, keys, key),
+    let mut i = page.keys;
+    for passed in 0..page.n {
+        let Some(probe) = probe_key(s, kind, i, key) else {
+            return passed;
+        };
+        i = probe.next;
     }
+    page.n
 }
 
 // The position of child number `k`, 0 past the last.
-pub fn child(s: &[u8], n: u32, positions: usize, k: u32) -> Position
-    ensures { result ≡ of_bits (get_or (positions_in s.now (n + 1) positions) k 0) }
+pub fn child(s: &[u8], page: Inner, k: u32) -> Position
+    ensures { result ≡ of_bits (get_or (positions_in s.now (page.n + 1) page.positions) k 0) }
 {
-    if n < k {
-        return Position {
-            bits: Position::EMPTY,
-        };
+    let empty = Position {
+        bits: Position::EMPTY,
+    };
+    if page.n < k {
+        return empty;
     }
-    if s.len() < positions {
-        return Position {
-            bits: Position::EMPTY,
-        };
-    }
-    let room = s.len() - positions;
-    let skip = 8 * k as usize;
-    if room < skip + 8 {
-        return Position {
-            bits: Position::EMPTY,
-        };
-    }
+    let Some(at) = page.positions.checked_add(8 * k as usize) else {
+        return empty;
+    };
     Position {
-        bits: numeral::be64(s, positions + skip),
+        bits: numeral::be64(s, at),
     }
 }
 
 // The recorded count of child number `k`, 0 past the last.
-pub fn recorded(s: &[u8], n: u32, counts: usize, k: u32) -> u64
-    ensures { result ≡ get_or (counts_in s.now (n + 1) counts) k 0 }
+pub fn recorded(s: &[u8], page: Inner, k: u32) -> u64
+    ensures { result ≡ get_or (counts_in s.now (page.n + 1) page.counts) k 0 }
 {
-    item::nth_count(s, n as u64 + 1, counts, k as u64)
+    item::nth_count(s, page.n as u64 + 1, page.counts, k as u64)
 }
 
 // The child that has an index, by the recorded counts from left to right.
-pub fn pick_child(s: &[u8], n: u32, counts: usize, index: u64) -> Picked
-    ensures { result ≡ picked_of (pick 0 index (counts_in s.now (n + 1) counts)) }
+pub fn pick_child(s: &[u8], page: Inner, index: u64) -> Option<Picked>
+    ensures { result ≡ picked_of (pick 0 index (counts_in s.now (page.n + 1) page.counts)) }
 {
-    let mut left = n as u64 + 1;
-    let mut number: u64 = 0;
-    let mut i = counts;
+    let mut i = page.counts;
     let mut sum: u64 = 0;
     let mut rest = index;
-    while 0 < left {
-        let v = numeral::read_var(s, i, item::COUNT_LIMIT);
-        let Numeral::Read { value: count, next } = v else {
-            return Picked::Over;
-        };
-        if item::COUNT_LIMIT - sum <= count {
-            return Picked::Over;
+    for number in 0..page.n as u64 + 1 {
+        let count = numeral::read_var(s, i, item::COUNT_LIMIT)?;
+        if item::COUNT_LIMIT - sum <= count.value {
+            return None;
         }
-        sum += count;
-        if rest < count {
-            return Picked::Child {
-                number: number as u32,
-                rest,
-            };
+        if rest < count.value {
+            let number = number as u32;
+            return Some(Picked { number, rest });
         }
-        rest -= count;
-        i = next;
-        number += 1;
-        left -= 1;
+        sum += count.value;
+        rest -= count.value;
+        i = count.next;
     }
-    Picked::Over
+    None
 }
 
 // The value of the first equal key that comes before any greater one.
-pub fn find_key(s: &[u8], kind: Kind, n: u32, keys: usize, values: usize, key: &[u8]) -> Found
-    ensures { result ≡ found_of (find_in compare_keys (key_of kind key.now) (entries_in s.now kind n keys values)) }
+pub fn find_key(s: &[u8], kind: Kind, leaf: Leaf, key: &[u8]) -> Option<Spot>
+    ensures { result ≡ option_map (λ e. e.value) (find_in compare_keys (key_of kind key.now) (entries_in s.now kind leaf.n leaf.keys leaf.values)) }
 {
-    match kind {
-        Kind::Number => numbers::find_number(s, n, keys, values, key),
-        Kind::Text => texts::find_text(s, n, keys, values, key),
+    let mut i = leaf.keys;
+    let mut j = leaf.values;
+    for _ in 0..leaf.n {
+        let probe = probe_key(s, kind, i, key)?;
+        let value = item::item_at(s, Form::Bytes, j)?;
+        if probe.same {
+            return Some(value.spot);
+        }
+        i = probe.next;
+        j = value.next;
     }
+    None
 }
 
 // Entry number `k` of a leaf, from 0.
-pub fn entry(s: &[u8], kind: Kind, n: u32, keys: usize, values: usize, k: u64) -> Nth
-    ensures { result ≡ nth_of (slice_get (entries_in s.now kind n keys values) k) }
+pub fn nth_entry(s: &[u8], kind: Kind, leaf: Leaf, k: u64) -> Option<Entry>
+    ensures { result ≡ option_map (λ e. e.1) (slice_get (entries_in s.now kind leaf.n leaf.keys leaf.values) k) }
 {
-    let a = item::nth_item(s, page::key_form(kind), n as u64, keys, k);
-    let Numbered::At { at: key, len: size } = a else {
-        return Nth::Out;
-    };
-    let b = item::nth_item(s, Form::Bytes, n as u64, values, k);
-    let Numbered::At { at, len } = b else {
-        return Nth::Out;
-    };
-    Nth::Entry { key, size, at, len }
+    let n = leaf.n as u64;
+    let key = item::nth_item(s, page::key_form(kind), n, leaf.keys, k)?;
+    let value = item::nth_item(s, Form::Bytes, n, leaf.values, k)?;
+    Some(Entry { key, value })
 }

@@ -4,26 +4,26 @@ use Rattle.item.specs.ItemLaws.{item_lies}
 use Rattle.content.specs.KeyLaws.{probe_at_lem, probe_bad}
 use Rattle.content.proofs.probe_key.Goals as goal
 
-pub returns-in_default : goal.returns-in_default
-returns-in_default c =
-    sym (probe_bad _ _ _ _ (rw c.key_form.ensures at (sym c.item_at-it.ensures ∙ c.in_default.is)))
+pub returns-in_err-item : goal.returns-in_err-item
+returns-in_err-item c =
+    c.from_residual.ensures ∙ sym (probe_bad _ _ _ _ (rw c.key_form.ensures at (sym c.item_at.ensures ∙ c.in_err-item.was)))
 
 pub slice_bounds-compare-count : goal.slice_bounds-compare-count
 slice_bounds-compare-count c =
-    omega (arith, (item_lies _ c.key_form.result c.args.i (sym c.item_at-it.ensures ∙ c.in-At.is)).ends)
+    omega (arith, (item_lies _ c.key_form.result c.args.i (sym c.item_at.ensures ∙ c.in_ok-item.was)).ends)
 
 pub slice_bounds-compare-start : goal.slice_bounds-compare-start
 slice_bounds-compare-start c =
-    omega (arith, (item_lies _ c.key_form.result c.args.i (sym c.item_at-it.ensures ∙ c.in-At.is)).ends)
+    omega (arith, (item_lies _ c.key_form.result c.args.i (sym c.item_at.ensures ∙ c.in_ok-item.was)).ends)
 
 pub slice_bounds-compare-end : goal.slice_bounds-compare-end
 slice_bounds-compare-end c =
-    omega (arith, (item_lies _ c.key_form.result c.args.i (sym c.item_at-it.ensures ∙ c.in-At.is)).inside)
+    omega (arith, (item_lies _ c.key_form.result c.args.i (sym c.item_at.ensures ∙ c.in_ok-item.was)).inside)
 
 pub returns-in-Less : goal.returns-in-Less
 returns-in-Less c =
     rw (
-      probe_at_lem _ _ _ _ (rw c.key_form.ensures at (sym c.item_at-it.ensures ∙ c.in-At.is)),
+      probe_at_lem _ _ _ _ (rw c.key_form.ensures at (sym c.item_at.ensures ∙ c.in_ok-item.was)),
       ← c.compare-o.ensures,
       c.in-Less.is,
     )
@@ -31,7 +31,7 @@ returns-in-Less c =
 pub returns-in-Equal : goal.returns-in-Equal
 returns-in-Equal c =
     rw (
-      probe_at_lem _ _ _ _ (rw c.key_form.ensures at (sym c.item_at-it.ensures ∙ c.in-At.is)),
+      probe_at_lem _ _ _ _ (rw c.key_form.ensures at (sym c.item_at.ensures ∙ c.in_ok-item.was)),
       ← c.compare-o.ensures,
       c.in-Equal.is,
     )
@@ -39,7 +39,7 @@ returns-in-Equal c =
 pub returns-in-Greater : goal.returns-in-Greater
 returns-in-Greater c =
     rw (
-      probe_at_lem _ _ _ _ (rw c.key_form.ensures at (sym c.item_at-it.ensures ∙ c.in-At.is)),
+      probe_at_lem _ _ _ _ (rw c.key_form.ensures at (sym c.item_at.ensures ∙ c.in_ok-item.was)),
       ← c.compare-o.ensures,
       c.in-Greater.is,
     )
