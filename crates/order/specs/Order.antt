@@ -11,18 +11,15 @@
 --   lex cmp           lists by their elements, a beginning before its extension: kind 1 keys
 use Rattle.std.specs.Prelude.{ℕ, ◌≡◌, Bool, true, false, cond, List, [], ◌∷◌, ltb, ℤ}
 use Rattle.std.specs.Int.Signed.{lt_z}
+use Rattle.std.specs.Ordering.{is_lt, ordering_reverse, ordering_then}
 use Rattle.std.specs.declared.cmp.Ordering.{Ordering}
 use Rattle.std.specs.declared.cmp.Ordering.TheVariants.{Less, Equal, Greater}
 
 abbrev pub turned : Ordering → Ordering
-turned Less = Greater
-turned Equal = Equal
-turned Greater = Less
+turned o = ordering_reverse o
 
 abbrev pub is_less : Ordering → Bool
-is_less Less = true
-is_less Equal = false
-is_less Greater = false
+is_less o = is_lt o
 
 pub record TotalOrder (K : Type 0) (cmp : K → K → Ordering) : Type 0 where
   pub self : (a : K) → cmp a a ≡ Equal
@@ -52,9 +49,7 @@ compare_int = by_test lt_z
 
 -- the first answer, unless it is Equal
 abbrev pub then : Ordering → Ordering → Ordering
-then Less o = Less
-then Equal o = o
-then Greater o = Greater
+then o p = ordering_then o p
 
 -- "ordered by byte, a beginning before its extension"
 abbrev pub lex : {A : Type 0} → (A → A → Ordering) → List A → List A → Ordering

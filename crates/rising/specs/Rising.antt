@@ -3,7 +3,7 @@
 --
 --   bound_key image kind b   the nearest separator above on a side, if there is one
 --   risen_below b ks         the keys rise strictly and the last of them is below the bound b
---   rise_of image kind b ps  how far the keys at the spots ps rise strictly, the first above b
+--   rise_of image kind b ps  the last of the keys at the spots ps, or b of none; nothing where they do not rise strictly, the first above b
 --   first_of ps              the first of them as a bound
 use Rattle.std.specs.Prelude.{ℕ, Bool, cond, ◌&&◌, List, [], ◌∷◌, None, Option, Some}
 use Rattle.key.specs.declared.Kind.{Kind}
@@ -12,23 +12,19 @@ use Rattle.tree.specs.Examination.{above_bound}
 use Rattle.tree.specs.Rising.{rises, last_below}
 use Rattle.item.specs.Item.{Spot}
 use Rattle.content.specs.Content.{key_in}
-use Rattle.rising.specs.declared.Bound.{Bound}
-use Rattle.rising.specs.declared.Bound.TheVariants as bound
-use Rattle.rising.specs.declared.Rise.{Rise}
-use Rattle.rising.specs.declared.Rise.TheVariants as rise
 
-unfoldable pub bound_key : List ℕ → Kind → Bound → Option Key
-bound_key image kind bound.Open = None
-bound_key image kind (bound.Key at len) = Some (key_in image kind (record { at = at; len = len }))
+unfoldable pub bound_key : List ℕ → Kind → Option Spot → Option Key
+bound_key image kind None = None
+bound_key image kind (Some p) = Some (key_in image kind p)
 
 abbrev pub risen_below : Option Key → List Key → Bool
 risen_below b ks = rises compare_keys None ks && last_below compare_keys b ks
 
-unfoldable pub rise_of : List ℕ → Kind → Bound → List Spot → Rise
-rise_of image kind b [] = rise.Ends b
+unfoldable pub rise_of : List ℕ → Kind → Option Spot → List Spot → Option (Option Spot)
+rise_of image kind b [] = Some b
 rise_of image kind b (p ∷ ps) =
-    cond (above_bound compare_keys (bound_key image kind b) (key_in image kind p)) (rise_of image kind (bound.Key p.at p.len) ps) rise.Falls
+    cond (above_bound compare_keys (bound_key image kind b) (key_in image kind p)) (rise_of image kind (Some p) ps) None
 
-abbrev pub first_of : List Spot → Bound
-first_of [] = bound.Open
-first_of (p ∷ ps) = bound.Key p.at p.len
+abbrev pub first_of : List Spot → Option Spot
+first_of [] = None
+first_of (p ∷ ps) = Some p

@@ -2,7 +2,7 @@
 --
 --   Climbing image kind s f b left i answer  the answer of a loop that has `left` keys from place i on, the last before them b
 --   end_below hi r                           the last of keys that rise is below the bound; not so of keys that don't rise
-use Rattle.std.specs.Prelude.{ℕ, ◌-◌, ◌≤◌, ◌<◌, ◌≡◌, Bool, cond, ◌&&◌, take, None, Some}
+use Rattle.std.specs.Prelude.{ℕ, ◌-◌, ◌≤◌, ◌<◌, ◌≡◌, Bool, cond, ◌&&◌, take, None, Some, Option}
 use Rattle.std.proofs.Math.Path.{refl}
 use Rattle.std.proofs.Common.{sym, ◌∙◌, ap, true≢false}
 use Rattle.std.proofs.Math.Bool.{true, false}
@@ -11,7 +11,6 @@ use native.Mathlib.Omega.{arith}
 use Rattle.std.proofs.Math.ListN.{length-take}
 use Rattle.key.specs.declared.Kind.{Kind}
 use Rattle.key.specs.declared.sized.Sized.{Sized}
-use Rattle.key.specs.declared.sized.Sized.TheVariants as sized
 use Rattle.key.specs.Key.{compare_keys}
 use Rattle.tree.specs.Page.{All}
 use Rattle.tree.specs.Examination.{above_bound, from_bound, below_bound}
@@ -24,34 +23,30 @@ use Rattle.item.specs.ItemLaws.{items_at, items_bad}
 use Rattle.page.specs.Judged.{key_form}
 use Rattle.content.specs.Content.{key_in, keys_in}
 use Rattle.content.specs.InsideLaws.{Inside, items_inside, part_cut}
-use Rattle.rising.specs.declared.Bound.{Bound}
-use Rattle.rising.specs.declared.Bound.TheVariants as bound
-use Rattle.rising.specs.declared.Rise.{Rise}
-use Rattle.rising.specs.declared.Rise.TheVariants as rise
 use Rattle.rising.specs.Rising.{bound_key, rise_of, first_of}
 
 -- ## A loop over the keys, written in the form f
-pub record Climbing (image : List ℕ) (kind : Kind) (s : List ℕ) (f : Form) (b : Bound) (left i : ℕ) (answer : Rise) : Type 0 where
+pub record Climbing (image : List ℕ) (kind : Kind) (s : List ℕ) (f : Form) (b : Option Spot) (left i : ℕ) (answer : Option (Option Spot)) : Type 0 where
   pub so_far : rise_of image kind b (up_to (items s f) left i) ≡ answer
 
-module _ {image : List ℕ} {kind : Kind} {s : List ℕ} {f : Form} {b : Bound} {left i : ℕ} {answer : Rise}
+module _ {image : List ℕ} {kind : Kind} {s : List ℕ} {f : Form} {b : Option Spot} {left i : ℕ} {answer : Option (Option Spot)}
     (l : Climbing image kind s f b left i answer) where
-  pub rise_none : left ≤ 0 → rise.Ends b ≡ answer
+  pub rise_none : left ≤ 0 → Some b ≡ answer
   unfolding rise_of up_to
   rise_none h = let e : left ≡ 0 = omega arith in rw e at l.so_far
 
-  module _ {it : Sized} (e : it ≡ item_at s f i) where
-    pub rise_bad : it ≡ sized.Bad → rise.Ends b ≡ answer
+  module _ {it : Option Sized} (e : it ≡ item_at s f i) where
+    pub rise_bad : it ≡ None → Some b ≡ answer
     unfolding rise_of
     rise_bad t = rw (up_to_bad (items s f) left i (items_bad s f i (sym e ∙ t))) at l.so_far
 
-    module _ {at len next : ℕ} {t : Bool} (h : 0 < left) (u : it ≡ sized.At at len next)
-        (above : t ≡ above_bound compare_keys (bound_key image kind b) (key_in image kind (record { at = at; len = len }))) where
-      pub rise_more : t ≡ true → Climbing image kind s f (bound.Key at len) (left - 1) next answer
+    module _ {j : Sized} {t : Bool} (h : 0 < left) (u : it ≡ Some j)
+        (above : t ≡ above_bound compare_keys (bound_key image kind b) (key_in image kind j.spot)) where
+      pub rise_more : t ≡ true → Climbing image kind s f (Some j.spot) (left - 1) j.next answer
       unfolding rise_of
       rise_more q = record { so_far = rw (up_to_more (items s f) left i h (items_at s f i (sym e ∙ u)), ← above, q) at l.so_far }
 
-      pub rise_falls : t ≡ false → rise.Falls ≡ answer
+      pub rise_falls : t ≡ false → None ≡ answer
       unfolding rise_of
       rise_falls q = rw (up_to_more (items s f) left i h (items_at s f i (sym e ∙ u)), ← above, q) at l.so_far
 
@@ -69,26 +64,25 @@ module _ (image : List ℕ) (kind : Kind) where
 
   -- ## The first key
   module _ (s : List ℕ) (n i : ℕ) where
-    pub first_none : n ≡ 0 → first_of (up_to (items s (key_form kind)) n i) ≡ bound.Open
+    pub first_none : n ≡ 0 → first_of (up_to (items s (key_form kind)) n i) ≡ None
     unfolding up_to
     first_none e = rw e
 
-    pub first_bad : item_at s (key_form kind) i ≡ sized.Bad → first_of (up_to (items s (key_form kind)) n i) ≡ bound.Open
+    pub first_bad : item_at s (key_form kind) i ≡ None → first_of (up_to (items s (key_form kind)) n i) ≡ None
     first_bad e = rw (up_to_bad (items s (key_form kind)) n i (items_bad s (key_form kind) i e))
 
-    pub first_at : {at len next : ℕ} → 0 < n → item_at s (key_form kind) i ≡ sized.At at len next
-        → first_of (up_to (items s (key_form kind)) n i) ≡ bound.Key at len
+    pub first_at : {j : Sized} → 0 < n → item_at s (key_form kind) i ≡ Some j → first_of (up_to (items s (key_form kind)) n i) ≡ Some j.spot
     first_at h e = rw (up_to_more (items s (key_form kind)) n i h (items_at s (key_form kind) i e))
 
   -- ## A rise, and its end
-  module _ (hi : Bound) where
-    abbrev pub end_below : Rise → Bool
-    end_below rise.Falls = false
-    end_below (rise.Ends bound.Open) = true
-    end_below (rise.Ends (bound.Key at len)) = below_bound compare_keys (bound_key image kind hi) (key_in image kind (record { at = at; len = len }))
+  module _ (hi : Option Spot) where
+    abbrev pub end_below : Option (Option Spot) → Bool
+    end_below None = false
+    end_below (Some None) = true
+    end_below (Some (Some p)) = below_bound compare_keys (bound_key image kind hi) (key_in image kind p)
 
     end_after : (p : Spot) (ps : List Spot)
-        → end_below (rise_of image kind (bound.Key p.at p.len) ps)
+        → end_below (rise_of image kind (Some p) ps)
         ≡ (rises compare_keys (Some (key_in image kind p)) (map (key_in image kind) ps)
         && last_below compare_keys (bound_key image kind hi) (key_in image kind p ∷ map (key_in image kind) ps))
     unfolding rise_of rises last_below bound_key
@@ -96,59 +90,55 @@ module _ (image : List ℕ) (kind : Kind) where
     end_after p (q ∷ ps) = go (above_bound compare_keys (Some (key_in image kind p)) (key_in image kind q)) (end_after q ps)
       where
         go : (t : Bool)
-            → end_below (rise_of image kind (bound.Key q.at q.len) ps)
+            → end_below (rise_of image kind (Some q) ps)
             ≡ (rises compare_keys (Some (key_in image kind q)) (map (key_in image kind) ps)
             && last_below compare_keys (bound_key image kind hi) (key_in image kind q ∷ map (key_in image kind) ps))
-            → end_below (cond t (rise_of image kind (bound.Key q.at q.len) ps) rise.Falls)
+            → end_below (cond t (rise_of image kind (Some q) ps) None)
             ≡ ((t && rises compare_keys (Some (key_in image kind q)) (map (key_in image kind) ps))
             && last_below compare_keys (bound_key image kind hi) (key_in image kind q ∷ map (key_in image kind) ps))
         go true ih = ih
         go false ih = refl
 
     end_all : (ps : List Spot)
-        → end_below (rise_of image kind bound.Open ps)
+        → end_below (rise_of image kind None ps)
         ≡ (rises compare_keys None (map (key_in image kind) ps) && last_below compare_keys (bound_key image kind hi) (map (key_in image kind) ps))
     unfolding rise_of rises last_below bound_key
     end_all [] = refl
     end_all (p ∷ ps) = end_after p ps
 
     pub end_below_lem : (end n keys : ℕ)
-        → end_below (rise_of image kind bound.Open (up_to (items (take end image) (key_form kind)) n keys))
+        → end_below (rise_of image kind None (up_to (items (take end image) (key_form kind)) n keys))
         ≡ (rises compare_keys None (keys_in (take end image) kind n keys)
         && last_below compare_keys (bound_key image kind hi) (keys_in (take end image) kind n keys))
     end_below_lem end n keys = rw (keys_at end n keys) (end_all (up_to (items (take end image) (key_form kind)) n keys))
 
   -- ## The tests of a page's keys, by the first of them
-  no_first : (ps : List Spot) → first_of ps ≡ bound.Open → ps ≡ []
+  no_first : (ps : List Spot) → first_of ps ≡ None → ps ≡ []
   no_first [] e = refl
-  no_first (p ∷ ps) e = absurd (true≢false cc)
+  no_first (p ∷ ps) e = cc
 
-  first_is : (ps : List Spot) {at len : ℕ} → first_of ps ≡ bound.Key at len
-      → (qs : List Spot) × (ps ≡ (record { at = at; len = len } ∷ qs))
-  first_is [] e = absurd (true≢false cc)
-  first_is (p ∷ ps) {at} {len} e =
-      let f : p.at ≡ at = cc in
-      let g : p.len ≡ len = cc in
-      (ps, rw (← f, ← g))
+  first_is : (ps : List Spot) {q : Spot} → first_of ps ≡ Some q → (qs : List Spot) × (ps ≡ (q ∷ qs))
+  first_is [] e = cc
+  first_is (p ∷ ps) {q} e = let f : p ≡ q = cc in (ps, rw f)
 
-  module _ (lo hi : Bound) (end n keys : ℕ) {b : Bound} (e : b ≡ first_of (up_to (items (take end image) (key_form kind)) n keys)) where
-    pub separators_none : b ≡ bound.Open
+  module _ (lo hi : Option Spot) (end n keys : ℕ) {b : Option Spot} (e : b ≡ first_of (up_to (items (take end image) (key_form kind)) n keys)) where
+    pub separators_none : b ≡ None
         → true ≡ separators_test compare_keys (bound_key image kind lo) (bound_key image kind hi) (keys_in (take end image) kind n keys)
     unfolding first_above rises last_below
     separators_none t = rw (keys_at end n keys, no_first (up_to (items (take end image) (key_form kind)) n keys) (sym e ∙ t))
 
-    pub keys_none : b ≡ bound.Open
+    pub keys_none : b ≡ None
         → true ≡ keys_test compare_keys (bound_key image kind lo) (bound_key image kind hi) (keys_in (take end image) kind n keys)
     unfolding first_from rises last_below
     keys_none t = rw (keys_at end n keys, no_first (up_to (items (take end image) (key_form kind)) n keys) (sym e ∙ t))
 
-    module _ {at len : ℕ} (f : b ≡ bound.Key at len) where
-      begins : (qs : List Spot) × (keys_in (take end image) kind n keys ≡ key_in image kind (record { at = at; len = len }) ∷ map (key_in image kind) qs)
+    module _ {q : Spot} (f : b ≡ Some q) where
+      begins : (qs : List Spot) × (keys_in (take end image) kind n keys ≡ key_in image kind q ∷ map (key_in image kind) qs)
       begins =
-          let q = first_is (up_to (items (take end image) (key_form kind)) n keys) (sym e ∙ f) in
-          (q.0, keys_at end n keys ∙ ap (map (key_in image kind)) q.1)
+          let first = first_is (up_to (items (take end image) (key_form kind)) n keys) (sym e ∙ f) in
+          (first.0, keys_at end n keys ∙ ap (map (key_in image kind)) first.1)
 
-      module _ {r : Bool} (t : r ≡ above_bound compare_keys (bound_key image kind lo) (key_in image kind (record { at = at; len = len }))) where
+      module _ {r : Bool} (t : r ≡ above_bound compare_keys (bound_key image kind lo) (key_in image kind q)) where
         separators_first : first_above compare_keys (bound_key image kind lo) (keys_in (take end image) kind n keys) ≡ r
         unfolding first_above
         separators_first = rw begins.1 (sym t)
@@ -157,13 +147,13 @@ module _ (image : List ℕ) (kind : Kind) where
             → x ≡ (rises compare_keys None (keys_in (take end image) kind n keys)
             && last_below compare_keys (bound_key image kind hi) (keys_in (take end image) kind n keys))
             → x ≡ separators_test compare_keys (bound_key image kind lo) (bound_key image kind hi) (keys_in (take end image) kind n keys)
-        separators_rise q y = rw (separators_first, q) y
+        separators_rise a y = rw (separators_first, a) y
 
         pub separators_low : r ≡ false
             → false ≡ separators_test compare_keys (bound_key image kind lo) (bound_key image kind hi) (keys_in (take end image) kind n keys)
-        separators_low q = rw (separators_first, q)
+        separators_low a = rw (separators_first, a)
 
-      module _ {r : Bool} (t : r ≡ from_bound compare_keys (bound_key image kind lo) (key_in image kind (record { at = at; len = len }))) where
+      module _ {r : Bool} (t : r ≡ from_bound compare_keys (bound_key image kind lo) (key_in image kind q)) where
         keys_first : first_from compare_keys (bound_key image kind lo) (keys_in (take end image) kind n keys) ≡ r
         unfolding first_from
         keys_first = rw begins.1 (sym t)
@@ -172,8 +162,8 @@ module _ (image : List ℕ) (kind : Kind) where
             → x ≡ (rises compare_keys None (keys_in (take end image) kind n keys)
             && last_below compare_keys (bound_key image kind hi) (keys_in (take end image) kind n keys))
             → x ≡ keys_test compare_keys (bound_key image kind lo) (bound_key image kind hi) (keys_in (take end image) kind n keys)
-        keys_rise q y = rw (keys_first, q) y
+        keys_rise a y = rw (keys_first, a) y
 
         pub keys_low : r ≡ false
             → false ≡ keys_test compare_keys (bound_key image kind lo) (bound_key image kind hi) (keys_in (take end image) kind n keys)
-        keys_low q = rw (keys_first, q)
+        keys_low a = rw (keys_first, a)

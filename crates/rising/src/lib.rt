@@ -3,7 +3,7 @@
 #![tactic(auto)]
 
 ghost use Rattle.std.specs.Prelude.{◌≡◌, take};
-ghost use Rattle.order.specs.Order.{is_less, below};
+ghost use Rattle.order.specs.Order.{below};
 ghost use Rattle.key.specs.Key.{compare_keys};
 ghost use Rattle.tree.specs.Examination.{above_bound, from_bound, below_bound};
 ghost use Rattle.tree.specs.Rising.{keys_test, separators_test};
@@ -13,243 +13,131 @@ ghost use Rattle.page.specs.Judged.{key_form};
 ghost use Rattle.content.specs.Content.{key_in, keys_in};
 ghost use Rattle.rising.specs.Rising.{bound_key, risen_below, rise_of, first_of};
 
-use key::{Kind, Sized};
-use std::cmp::Ordering;
+use key::Kind;
+use page::{Inner, Leaf};
+use text::Spot;
 
-// The nearest separator above on a side, by its place in the image; or none.
-#[derive(Clone, Copy)]
-pub enum Bound {
-    Open,
-    Key { at: usize, len: usize },
+// The nearest separators above on each side, by their places in the image.
+#[derive(Clone, Copy, Debug, PartialEq, Eq)]
+pub struct Span {
+    pub lo: Option<Spot>,
+    pub hi: Option<Spot>,
 }
 
-// Keys that rise strictly, by the last of them; or keys that do not.
-#[derive(Clone, Copy)]
-pub enum Rise {
-    Ends(Bound),
-    Falls,
+// So many keys from a place on, and where their page ends.
+#[derive(Clone, Copy, Debug, PartialEq, Eq)]
+struct Keys {
+    n: u32,
+    at: usize,
+    end: usize,
 }
 
-fn is_less(o: Ordering) -> bool
-    ensures { result ≡ is_less o }
+// Whether the key at one spot is below the key at another.
+fn key_below(image: &[u8], kind: Kind, p: Spot, q: Spot) -> bool
+    ensures { result ≡ below compare_keys (key_in image.now kind p) (key_in image.now kind q) }
 {
-    match o {
-        Ordering::Less => true,
-        Ordering::Equal => false,
-        Ordering::Greater => false,
+    key::compare(kind, p.bytes(image), q.bytes(image)).is_lt()
+}
+
+// Whether the key at a spot is above the bound.
+fn above_bound(image: &[u8], kind: Kind, bound: Option<Spot>, p: Spot) -> bool
+    ensures { result ≡ above_bound compare_keys (bound_key image.now kind bound) (key_in image.now kind p) }
+{
+    match bound {
+        None => true,
+        Some(q) => key_below(image, kind, q, p),
     }
 }
 
-// Whether the key at one place is below the key at another.
-fn key_below(image: &[u8], kind: Kind, at: usize, len: usize, other: usize, size: usize) -> bool
-    ensures { result ≡ below compare_keys (key_in image.now kind (record { at = at; len = len })) (key_in image.now kind (record { at = other; len = size })) }
+// Whether the key at a spot is not below the bound.
+fn from_bound(image: &[u8], kind: Kind, bound: Option<Spot>, p: Spot) -> bool
+    ensures { result ≡ from_bound compare_keys (bound_key image.now kind bound) (key_in image.now kind p) }
 {
-    is_less(key::compare(
-        kind,
-        text::bytes_at(image, at, len),
-        text::bytes_at(image, other, size),
-    ))
-}
-
-// The same of two number keys, by their words.
-fn number_below(image: &[u8], at: usize, other: usize) -> bool
-    ensures { result ≡ below compare_keys (key_in image.now Kind.Number (record { at = at; len = 8 })) (key_in image.now Kind.Number (record { at = other; len = 8 })) }
-{
-    let a = numeral::be64(text::bytes_at(image, at, 8), 0);
-    let b = numeral::be64(text::bytes_at(image, other, 8), 0);
-    is_less(key::compare_numbers(a, b))
-}
-
-// Whether the key at a place is above the bound.
-fn above_bound(image: &[u8], kind: Kind, b: Bound, at: usize, len: usize) -> bool
-    ensures { result ≡ above_bound compare_keys (bound_key image.now kind b) (key_in image.now kind (record { at = at; len = len })) }
-{
-    match b {
-        Bound::Open => true,
-        Bound::Key {
-            at: other,
-            len: size,
-        } => key_below(image, kind, other, size, at, len),
+    match bound {
+        None => true,
+        Some(q) => !key_below(image, kind, p, q),
     }
 }
 
-// Whether the key at a place is not below the bound.
-fn from_bound(image: &[u8], kind: Kind, b: Bound, at: usize, len: usize) -> bool
-    ensures { result ≡ from_bound compare_keys (bound_key image.now kind b) (key_in image.now kind (record { at = at; len = len })) }
+// Whether the key at a spot is below the bound.
+fn below_bound(image: &[u8], kind: Kind, bound: Option<Spot>, p: Spot) -> bool
+    ensures { result ≡ below_bound compare_keys (bound_key image.now kind bound) (key_in image.now kind p) }
 {
-    match b {
-        Bound::Open => true,
-        Bound::Key {
-            at: other,
-            len: size,
-        } => {
-            if key_below(image, kind, at, len, other, size) {
-                return false;
-            }
-            true
-        }
+    match bound {
+        None => true,
+        Some(q) => key_below(image, kind, p, q),
     }
 }
 
-// Whether the key at a place is below the bound.
-fn below_bound(image: &[u8], kind: Kind, b: Bound, at: usize, len: usize) -> bool
-    ensures { result ≡ below_bound compare_keys (bound_key image.now kind b) (key_in image.now kind (record { at = at; len = len })) }
+// The last of the keys, where they rise strictly: nothing where they do not, `Some(None)` of no key.
+fn rise(image: &[u8], kind: Kind, keys: Keys) -> Option<Option<Spot>>
+    ensures { result ≡ rise_of image.now kind None (up_to (items (take keys.end image.now) (key_form kind)) keys.n keys.at) }
 {
-    match b {
-        Bound::Open => true,
-        Bound::Key {
-            at: other,
-            len: size,
-        } => key_below(image, kind, at, len, other, size),
-    }
-}
-
-// Whether the number key at a place is above the bound.
-fn number_above(image: &[u8], b: Bound, at: usize, len: usize) -> bool
-    ensures { result ≡ above_bound compare_keys (bound_key image.now Kind.Number b) (key_in image.now Kind.Number (record { at = at; len = len })) }
-{
-    if len != 8 {
-        return above_bound(image, Kind::Number, b, at, len);
-    }
-    match b {
-        Bound::Open => true,
-        Bound::Key {
-            at: other,
-            len: size,
-        } => {
-            if size != 8 {
-                return key_below(image, Kind::Number, other, size, at, len);
-            }
-            number_below(image, other, at)
-        }
-    }
-}
-
-// Whether `n` number keys from `keys` on rise strictly, and the last of them.
-fn numbers_rise(image: &[u8], n: u32, keys: usize, end: usize) -> Rise
-    ensures { result ≡ rise_of image.now Kind.Number Bound.Open (up_to (items (take end image.now) (key_form Kind.Number)) n keys) }
-{
-    let s = page::cut(image, end);
-    let mut left = n;
-    let mut i = keys;
-    let mut b = Bound::Open;
-    while 0 < left {
-        let it = key::number_at(s, i);
-        let Sized::At { at, len, next } = it else {
-            return Rise::Ends(b);
-        };
-        if number_above(image, b, at, len) {} else {
-            return Rise::Falls;
-        }
-        b = Bound::Key { at, len };
-        i = next;
-        left -= 1;
-    }
-    Rise::Ends(b)
-}
-
-// The same of keys of either kind, one by one.
-fn rise_each(image: &[u8], kind: Kind, n: u32, keys: usize, end: usize) -> Rise
-    ensures { result ≡ rise_of image.now kind Bound.Open (up_to (items (take end image.now) (key_form kind)) n keys) }
-{
-    let s = page::cut(image, end);
+    let s = page::cut(image, keys.end);
     let form = page::key_form(kind);
-    let mut left = n;
-    let mut i = keys;
-    let mut b = Bound::Open;
-    while 0 < left {
-        let it = item::item_at(s, form, i);
-        let Sized::At { at, len, next } = it else {
-            return Rise::Ends(b);
+    let mut i = keys.at;
+    let mut last = None;
+    for _ in 0..keys.n {
+        let Some(item) = item::item_at(s, form, i) else {
+            return Some(last);
         };
-        if above_bound(image, kind, b, at, len) {} else {
-            return Rise::Falls;
+        if !above_bound(image, kind, last, item.spot) {
+            return None;
         }
-        b = Bound::Key { at, len };
-        i = next;
-        left -= 1;
+        last = Some(item.spot);
+        i = item.next;
     }
-    Rise::Ends(b)
-}
-
-// Whether `n` keys from `keys` on rise strictly, and the last of them.
-fn rise_from(image: &[u8], kind: Kind, n: u32, keys: usize, end: usize) -> Rise
-    ensures { result ≡ rise_of image.now kind Bound.Open (up_to (items (take end image.now) (key_form kind)) n keys) }
-{
-    match kind {
-        Kind::Number => numbers_rise(image, n, keys, end),
-        Kind::Text => rise_each(image, kind, n, keys, end),
-    }
+    Some(last)
 }
 
 // Whether the keys rise strictly and the last of them is below the bound.
-fn rise_below(image: &[u8], kind: Kind, n: u32, keys: usize, end: usize, hi: Bound) -> bool
-    ensures { result ≡ risen_below (bound_key image.now kind hi) (keys_in (take end image.now) kind n keys) }
+fn rise_below(image: &[u8], kind: Kind, keys: Keys, hi: Option<Spot>) -> bool
+    ensures { result ≡ risen_below (bound_key image.now kind hi) (keys_in (take keys.end image.now) kind keys.n keys.at) }
 {
-    let r = rise_from(image, kind, n, keys, end);
-    match r {
-        Rise::Falls => false,
-        Rise::Ends(b) => match b {
-            Bound::Open => true,
-            Bound::Key { at, len } => below_bound(image, kind, hi, at, len),
-        },
+    match rise(image, kind, keys) {
+        None => false,
+        Some(None) => true,
+        Some(Some(last)) => below_bound(image, kind, hi, last),
     }
 }
 
-// The first of `n` keys, as a bound.
-fn first_key(image: &[u8], kind: Kind, n: u32, keys: usize, end: usize) -> Bound
-    ensures { result ≡ first_of (up_to (items (take end image.now) (key_form kind)) n keys) }
+// The first of the keys.
+fn first_key(image: &[u8], kind: Kind, keys: Keys) -> Option<Spot>
+    ensures { result ≡ first_of (up_to (items (take keys.end image.now) (key_form kind)) keys.n keys.at) }
 {
-    if n == 0 {
-        return Bound::Open;
+    if keys.n == 0 {
+        return None;
     }
-    let it = item::item_at(page::cut(image, end), page::key_form(kind), keys);
-    match it {
-        Sized::At { at, len, next: _ } => Bound::Key { at, len },
-        Sized::Bad => Bound::Open,
-    }
+    let item = item::item_at(page::cut(image, keys.end), page::key_form(kind), keys.at)?;
+    Some(item.spot)
 }
 
 // Whether an inner page's separators rise strictly and lie strictly between the bounds.
-pub fn separators_lie(
-    image: &[u8],
-    kind: Kind,
-    n: u32,
-    keys: usize,
-    end: usize,
-    lo: Bound,
-    hi: Bound,
-) -> bool
-    ensures { result ≡ separators_test compare_keys (bound_key image.now kind lo) (bound_key image.now kind hi) (keys_in (take end image.now) kind n keys) }
+pub fn separators_lie(image: &[u8], kind: Kind, page: Inner, span: Span) -> bool
+    ensures { result ≡ separators_test compare_keys (bound_key image.now kind span.lo) (bound_key image.now kind span.hi) (keys_in (take page.end image.now) kind page.n page.keys) }
 {
-    let f = first_key(image, kind, n, keys, end);
-    let Bound::Key { at, len } = f else {
+    let keys = Keys {
+        n: page.n,
+        at: page.keys,
+        end: page.end,
+    };
+    let Some(first) = first_key(image, kind, keys) else {
         return true;
     };
-    if above_bound(image, kind, lo, at, len) {
-        return rise_below(image, kind, n, keys, end, hi);
-    }
-    false
+    above_bound(image, kind, span.lo, first) && rise_below(image, kind, keys, span.hi)
 }
 
 // Whether a leaf's keys rise strictly, not below the bound on the left, below the one on the right.
-pub fn keys_lie(
-    image: &[u8],
-    kind: Kind,
-    n: u32,
-    keys: usize,
-    end: usize,
-    lo: Bound,
-    hi: Bound,
-) -> bool
-    ensures { result ≡ keys_test compare_keys (bound_key image.now kind lo) (bound_key image.now kind hi) (keys_in (take end image.now) kind n keys) }
+pub fn keys_lie(image: &[u8], kind: Kind, leaf: Leaf, span: Span) -> bool
+    ensures { result ≡ keys_test compare_keys (bound_key image.now kind span.lo) (bound_key image.now kind span.hi) (keys_in (take leaf.end image.now) kind leaf.n leaf.keys) }
 {
-    let f = first_key(image, kind, n, keys, end);
-    let Bound::Key { at, len } = f else {
+    let keys = Keys {
+        n: leaf.n,
+        at: leaf.keys,
+        end: leaf.end,
+    };
+    let Some(first) = first_key(image, kind, keys) else {
         return true;
     };
-    if from_bound(image, kind, lo, at, len) {
-        return rise_below(image, kind, n, keys, end, hi);
-    }
-    false
+    from_bound(image, kind, span.lo, first) && rise_below(image, kind, keys, span.hi)
 }

@@ -1,10 +1,10 @@
 use Rattle.rising.specs.Rising.{bound_key}
 use Rattle.rising.proofs.below_bound.Goals as goal
 
-pub returns-in-Open : goal.returns-in-Open
+pub returns-in-None : goal.returns-in-None
 unfolding bound_key
-returns-in-Open c = rw c.in-Open.is
+returns-in-None c = rw c.in-None.is
 
-pub returns-in-Key : goal.returns-in-Key
+pub returns-in-Some : goal.returns-in-Some
 unfolding bound_key
-returns-in-Key c = rw c.in-Key.is c.key_below.ensures
+returns-in-Some c = rw c.in-Some.is c.key_below.ensures

@@ -4,19 +4,20 @@ use lib.ListN.{take}
 use Rattle.rising.specs.RisingLaws.{first_none, first_bad, first_at}
 use Rattle.rising.proofs.first_key.Goals as goal
 
-pub returns-then-n-eq0 : goal.returns-then-n-eq0
-returns-then-n-eq0 c =
+pub returns-then-keys-eq0 : goal.returns-then-keys-eq0
+returns-then-keys-eq0 c =
     let a = c.args in
-    sym (first_none a.image.now a.kind (take a.end a.image.now) a.n a.keys c.if-n-eq0.true)
+    sym (first_none a.image.now a.kind (take a.keys.end a.image.now) a.keys.n a.keys.at c.if-keys-eq0.true)
 
-pub returns-in-At : goal.returns-in-At
-returns-in-At c =
+pub returns-in_err-item : goal.returns-in_err-item
+returns-in_err-item c =
     let a = c.args in
-    sym (first_at a.image.now a.kind (take a.end a.image.now) a.n a.keys (omega arith)
-    (rw (c.cut.ensures, c.key_form.ensures) at (sym c.item_at-it.ensures ∙ c.in-At.is)))
+    c.from_residual.ensures
+    ∙ sym (first_bad a.image.now a.kind (take a.keys.end a.image.now) a.keys.n a.keys.at
+    (rw (c.cut.ensures, c.key_form.ensures) at (sym c.item_at.ensures ∙ c.in_err-item.was)))
 
-pub returns-in-Bad : goal.returns-in-Bad
-returns-in-Bad c =
+pub returns : goal.returns
+returns c =
     let a = c.args in
-    sym (first_bad a.image.now a.kind (take a.end a.image.now) a.n a.keys
-    (rw (c.cut.ensures, c.key_form.ensures) at (sym c.item_at-it.ensures ∙ c.in-Bad.is)))
+    sym (first_at a.image.now a.kind (take a.keys.end a.image.now) a.keys.n a.keys.at (omega arith)
+    (rw (c.cut.ensures, c.key_form.ensures) at (sym c.item_at.ensures ∙ c.in_ok-item.was)))

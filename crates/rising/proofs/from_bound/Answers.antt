@@ -1,14 +1,12 @@
+use mathlib.Core.Path.{ap}
+use Rattle.std.proofs.Common.{not}
 use Rattle.rising.specs.Rising.{bound_key}
 use Rattle.rising.proofs.from_bound.Goals as goal
 
-pub returns-then-key_below : goal.returns-then-key_below
+pub returns-in-None : goal.returns-in-None
 unfolding bound_key
-returns-then-key_below c = rw (c.in-Key.is, ← c.key_below.ensures, c.if-key_below.true)
+returns-in-None c = rw c.in-None.is
 
-pub returns-in-Open : goal.returns-in-Open
+pub returns-in-Some : goal.returns-in-Some
 unfolding bound_key
-returns-in-Open c = rw c.in-Open.is
-
-pub returns-else-key_below : goal.returns-else-key_below
-unfolding bound_key
-returns-else-key_below c = rw (c.in-Key.is, ← c.key_below.ensures, c.if-key_below.false)
+returns-in-Some c = rw c.in-Some.is (ap not c.key_below.ensures)

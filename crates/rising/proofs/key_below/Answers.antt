@@ -3,5 +3,4 @@ use Rattle.rising.proofs.key_below.Goals as goal
 
 pub returns : goal.returns
 unfolding key_in
-returns c =
-    rw (← c.bytes_at.ensures, ← c.bytes_at-2.ensures, ← c.compare.ensures) c.is_less.ensures
+returns c = rw (← c.bytes.ensures, ← c.bytes-2.ensures, ← c.compare.ensures) c.is_lt.ensures
