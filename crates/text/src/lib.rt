@@ -1,8 +1,12 @@
 // Runs of bytes. Definitions and laws in specs/; here the searches and tests that code makes of them.
 #![tactic(auto)]
 
+mod spot;
+
 ghost use Rattle.std.specs.Prelude.{◌+◌, ◌<◌, ◌≤◌, ◌≡◌, length, take, drop};
 ghost use Rattle.text.specs.Text.{bytes_at, span, is_not, is_letter, every, is_printable, same};
+
+pub use spot::Spot;
 
 // The `n` bytes at `at`, or as many of them as there are.
 pub fn bytes_at(s: &[u8], at: usize, n: usize) -> &[u8]
