@@ -10,6 +10,8 @@ use borrow.Author.Tests.{ltb-true, ltb-false, leb-true, le-leb, eq-eqb, ne_eqb, 
 use Rattle.std.proofs.Math.Dec.{eqb, eqb-suc-suc, eqb-zero-suc}
 use Rattle.std.proofs.Math.ListN.{length, take, drop, drop_of_length-le}
 use Rattle.std.proofs.Math.Seq.{drop-cons, take-nil}
+use Rattle.std.specs.List.{list_all}
+use Rattle.std.specs.Cmp.Lexicographic.{pointwise}
 use Rattle.text.specs.Text.{bytes_at, span, every, within, is_not, same, split, to_first}
 
 -- ## The bytes at a place
@@ -281,3 +283,24 @@ module _ (P Q : ℕ → Bool) (narrower : (x : ℕ) → P x ≡ true → Q x ≡
   -- any other byte follows it: the wider run goes on
   pub span_goes_on : (s : List ℕ) → span P s < length s → Q (get_or s (span P s) 0) ≡ true → span P s ≡ span Q s → ⊥
   span_goes_on s h q e = let a = span_next Q s (omega arith) in let b = rw e at q in true≢false cc
+
+-- ## In the words of the library, which say what its `all` and `==` find
+pub every_all : (P : ℕ → Bool) (s : List ℕ) → every P s ≡ list_all P s
+unfolding every
+every_all P [] = refl
+every_all P (x ∷ s) = go (P x) (every_all P s)
+  where
+    go : (t : Bool) → every P s ≡ list_all P s → cond t (every P s) false ≡ t && list_all P s
+    go true e = e
+    go false e = refl
+
+pub same_pointwise : (s t : List ℕ) → same s t ≡ pointwise eqb s t
+unfolding same
+same_pointwise [] [] = refl
+same_pointwise [] (y ∷ t) = refl
+same_pointwise (x ∷ s) [] = refl
+same_pointwise (x ∷ s) (y ∷ t) = go (eqb x y) (same_pointwise s t)
+  where
+    go : (b : Bool) → same s t ≡ pointwise eqb s t → cond b (same s t) false ≡ b && pointwise eqb s t
+    go true e = e
+    go false e = refl

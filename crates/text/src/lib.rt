@@ -23,50 +23,29 @@ pub fn bytes_at(s: &[u8], at: usize, n: usize) -> &[u8]
     &s[at..to]
 }
 
-// The place of the first `b` from `from` on; where there is none, the place after the last byte.
+// The place of the first `b` from `from` on; where there is none, the place after the last byte. A `for`,
+// here and below: `position` takes a tenth longer on the short texts that lines have.
 pub fn find_byte(s: &[u8], from: usize, b: u8) -> usize
     ensures { result ≡ from + span (is_not b) (drop from s.now) }
 {
-    let mut i = from;
-    while i < s.len() {
+    for i in from..s.len() {
         if s[i] == b {
             return i;
         }
-        i += 1;
     }
-    i
-}
-
-// Whether a byte below `a` is a letter.
-fn is_capital(b: u8) -> bool
-    requires { b < 97 }
-    ensures { result ≡ is_letter b }
-{
-    if b < 65 {
-        return false;
-    }
-    b <= 90
+    from.max(s.len())
 }
 
 // The place after the letters at `from`.
 pub fn letters_end(s: &[u8], from: usize) -> usize
     ensures { result ≡ from + span is_letter (drop from s.now) }
 {
-    let mut i = from;
-    while i < s.len() {
-        let b = s[i];
-        if b < 97 {
-            if is_capital(b) {} else {
-                return i;
-            }
-        } else {
-            if 122 < b {
-                return i;
-            }
+    for i in from..s.len() {
+        if !s[i].is_ascii_alphabetic() {
+            return i;
         }
-        i += 1;
     }
-    i
+    from.max(s.len())
 }
 
 // Whether a byte is 32 to 126. No branch: of eight such tests joined by `&` a compiler makes one.
@@ -101,14 +80,7 @@ fn sixteen_printable(s: &[u8], i: usize) -> bool
 fn each_printable(s: &[u8]) -> bool
     ensures { result ≡ every is_printable s.now }
 {
-    let mut i = 0;
-    while i < s.len() {
-        if printable(s[i]) {} else {
-            return false;
-        }
-        i += 1;
-    }
-    true
+    s.iter().all(|&b| printable(b))
 }
 
 // All bytes of a text of fewer than eight.
@@ -142,12 +114,10 @@ pub fn all_printable(s: &[u8]) -> bool
         return short_printable(s);
     }
     let last = s.len() - 16;
-    let mut i = 0;
-    while i < last {
-        if sixteen_printable(s, i) {} else {
+    for i in (0..last).step_by(16) {
+        if !sixteen_printable(s, i) {
             return false;
         }
-        i += 16;
     }
     sixteen_printable(s, last)
 }
@@ -156,15 +126,5 @@ pub fn all_printable(s: &[u8]) -> bool
 pub fn same_bytes(s: &[u8], t: &[u8]) -> bool
     ensures { result ≡ same s.now t.now }
 {
-    if s.len() != t.len() {
-        return false;
-    }
-    let mut i = 0;
-    while i < s.len() {
-        if s[i] != t[i] {
-            return false;
-        }
-        i += 1;
-    }
-    true
+    s == t
 }

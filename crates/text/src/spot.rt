@@ -1,9 +1,10 @@
-// Bytes by place and length.
+// A run of a text's bytes, by its place.
 ghost use Rattle.std.specs.Prelude.{◌≡◌};
 ghost use Rattle.text.specs.Text.{bytes_at};
 
-use super::bytes_at;
+use crate::bytes_at;
 
+// Bytes by place and length.
 #[derive(Clone, Copy, Debug, PartialEq, Eq)]
 pub struct Spot {
     pub at: usize,
