@@ -24,31 +24,31 @@ returns-then-line-colon-ne58 c =
     let a = c.args in
     sym (part_other a.line.now a.from _ c.letters_end-colon.ensures c.if-line-colon-ne58.true)
 
-pub returns-else-line-next-ne44 : goal.returns-else-line-next-ne44
-returns-else-line-next-ne44 c =
+pub returns-else-line-end-ne44 : goal.returns-else-line-end-ne44
+returns-else-line-end-ne44 c =
     let a = c.args in
     let letters = c.letters_end-colon.ensures in
-    let read = sym c.hex_at-digits.ensures ∙ c.in-Read.is in
-    sym (part_ends a.line.now a.from _ letters (omega arith) (omega arith) (search rules) _ _ read (λ h. search rules))
+    let read = sym c.hex_at.ensures ∙ c.in_ok-digits.was in
+    sym (part_ends a.line.now a.from _ letters (omega arith) (omega arith) (search rules) _ read (λ h. search rules))
 
-pub returns-else-next-line : goal.returns-else-next-line
-returns-else-next-line c =
+pub returns-else-end-line : goal.returns-else-end-line
+returns-else-end-line c =
     let a = c.args in
     let letters = c.letters_end-colon.ensures in
-    let read = sym c.hex_at-digits.ensures ∙ c.in-Read.is in
-    sym (part_ends a.line.now a.from _ letters (omega arith) (omega arith) (search rules) _ _ read (λ h. absurd (omega arith)))
+    let read = sym c.hex_at.ensures ∙ c.in_ok-digits.was in
+    sym (part_ends a.line.now a.from _ letters (omega arith) (omega arith) (search rules) _ read (λ h. absurd (omega arith)))
 
-pub returns-in_default : goal.returns-in_default
-returns-in_default c =
+pub returns-in_err-digits : goal.returns-in_err-digits
+returns-in_err-digits c =
     let a = c.args in
     let letters = c.letters_end-colon.ensures in
-    let none = sym c.hex_at-digits.ensures ∙ c.in_default.is in
-    sym (part_numberless a.line.now a.from _ letters (omega arith) (omega arith) (search rules) none)
+    let none = sym c.hex_at.ensures ∙ c.in_err-digits.was in
+    c.from_residual.ensures ∙ sym (part_numberless a.line.now a.from _ letters (omega arith) (omega arith) (search rules) none)
 
-pub returns-then-line-next-ne44 : goal.returns-then-line-next-ne44
-returns-then-line-next-ne44 c =
+pub returns-then-line-end-ne44 : goal.returns-then-line-end-ne44
+returns-then-line-end-ne44 c =
     let a = c.args in
     let letters = c.letters_end-colon.ensures in
-    let read = sym c.hex_at-digits.ensures ∙ c.in-Read.is in
-    let more = c.if-next-line.true in
-    sym (part_followed a.line.now a.from _ letters (omega arith) (omega arith) (search rules) _ _ read more c.if-line-next-ne44.true)
+    let read = sym c.hex_at.ensures ∙ c.in_ok-digits.was in
+    let more = c.if-end-line.true in
+    sym (part_followed a.line.now a.from _ letters (omega arith) (omega arith) (search rules) _ read more c.if-line-end-ne44.true)
