@@ -1,5 +1,5 @@
 -- Laws of the line of an area.
-use Rattle.std.specs.Prelude.{ℕ, zero, suc, ◌-◌, ◌≤◌, ◌<◌, ◌≡◌, refl, Bool, true, false, cond, List, eqb, ltb, length, get_or, Option, Some, None}
+use Rattle.std.specs.Prelude.{ℕ, zero, suc, ◌-◌, ◌≤◌, ◌<◌, ◌≡◌, refl, Bool, true, false, cond, List, eqb, ltb, length, get_or, Some, None}
 use Rattle.std.proofs.Common.{true≢false, arith, ltb-true, eq-eqb, ne_eqb}
 use Rattle.text.specs.Text.{span, is_not}
 use Rattle.line.specs.declared.Line.{Line}

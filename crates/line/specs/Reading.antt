@@ -18,7 +18,7 @@ use Rattle.line.specs.declared.read.Name.{Name}
 use Rattle.line.specs.declared.read.Name.TheVariants as name
 use Rattle.names.specs.Names.{named_in}
 use Rattle.line.specs.Field.{field_of}
-use Rattle.line.specs.Fields.{on_some, known, text_of, name_fletcher}
+use Rattle.line.specs.Fields.{on_some, known, name_fletcher}
 
 unfoldable pub number_of : List ℕ → List (List ℕ) → ℕ
 number_of name [] = 0

@@ -16,24 +16,19 @@ pub fn field_at(line: &[u8], from: usize) -> Option<Field>
 {
     let colon = text::letters_end(line, from);
     let n = colon - from;
-    if n < 1 {
-        return None;
-    }
-    if 16 < n {
+    if n < 1 || 16 < n {
         return None;
     }
     if line.len() <= colon {
         return None;
     }
-    if line[colon] != 58 {
+    if line[colon] != b':' {
         return None;
     }
     let digits = numeral::hex_at(line, colon + 1)?;
     let end = digits.next;
-    if end < line.len() {
-        if line[end] != 44 {
-            return None;
-        }
+    if end < line.len() && line[end] != b',' {
+        return None;
     }
     Some(Field {
         colon,

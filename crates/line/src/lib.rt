@@ -24,12 +24,10 @@ fn trim(s: &[u8], n: usize) -> usize
     requires { n ≤ length s.now }
     ensures { result ≡ trimmed n s.now }
 {
-    let mut left = n;
-    while 0 < left {
-        if s[left - 1] != 32 {
-            return left;
+    for i in (0..n).rev() {
+        if s[i] != b' ' {
+            return i + 1;
         }
-        left -= 1;
     }
     0
 }
@@ -38,7 +36,7 @@ fn trim(s: &[u8], n: usize) -> usize
 pub fn line_of(area: &[u8]) -> Option<Line>
     ensures { result ≡ line_of area.now }
 {
-    let newline = text::find_byte(area, 0, 10);
+    let newline = text::find_byte(area, 0, b'\n');
     if newline < area.len() {
         Some(Line {
             len: trim(area, newline),

@@ -89,7 +89,14 @@ fn slot_of(name: &[u8]) -> Option<Name>
 
 // Whether the name is given already or, where it is not a known one, comes again after `end`.
 // Nothing is looked for where the names are known to be `apart`.
-fn repeats(f: Fields, known: Option<Name>, apart: bool, line: &[u8], end: usize, name: &[u8]) -> bool
+fn repeats(
+    f: Fields,
+    known: Option<Name>,
+    apart: bool,
+    line: &[u8],
+    end: usize,
+    name: &[u8],
+) -> bool
     requires known { known ≡ known_name name.now }
     requires apart { apart ≡ true → seen f (slot_of name.now) name.now (parts_after line.now end) ≡ false }
     ensures { result ≡ seen f (slot_of name.now) name.now (parts_after line.now end) }

@@ -28,10 +28,8 @@ fn ends_right(edition: Edition, line: &[u8], n: usize) -> bool
 pub fn right_sum(edition: Edition, line: &[u8]) -> bool
     ensures { result ≡ right_sum edition line.now }
 {
-    let mut n = line.len();
-    while 0 < n {
-        n -= 1;
-        if line[n] == 44 {
+    for n in (0..line.len()).rev() {
+        if line[n] == b',' {
             return ends_right(edition, line, n);
         }
     }

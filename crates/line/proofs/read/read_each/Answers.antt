@@ -2,7 +2,6 @@ use Prim.Native.Nat.{◌-◌}
 use lib.ListN.{take, drop}
 use mathlib.Core.Path.{◌≡◌, refl, sym, ◌∙◌}
 use native.Mathlib.Omega.{arith}
-use borrow.Author.Tests.{lt-ltb, le-ltb}
 use Rattle.line.specs.Reading.{slot_of, put}
 use Rattle.line.specs.FieldLaws.{part_placed}
 use Rattle.line.specs.ReadingLaws.{finish_bad, finish_end, finish_seen, finish_put}
