@@ -17,11 +17,8 @@ fn ends_right(edition: Edition, line: &[u8], n: usize) -> bool
     let Some(field) = field_at(line, from) else {
         return false;
     };
-    if text::same_bytes(b"fletcher", &line[from..field.colon]) {
-        field.value == fletcher::sum_text(edition, &line[..n])
-    } else {
-        false
-    }
+    text::same_bytes(b"fletcher", &line[from..field.colon])
+        && field.value == fletcher::sum_text(edition, &line[..n])
 }
 
 // Whether the line's last field is `fletcher` and is right over the bytes before the comma in front.

@@ -45,4 +45,4 @@ returns-else-same_bytes c =
     let a = c.args in
     let alone = c.requires.1 in
     let p = part_placed (sym c.in-Some.is ∙ c.field_at.ensures) in
-    sym (ends_other a.edition a.line.now a.n alone p (sym c.same_bytes.ensures ∙ c.if-same_bytes.false))
+    c.if-same_bytes.false ∙ sym (ends_other a.edition a.line.now a.n alone p (sym c.same_bytes.ensures ∙ c.if-same_bytes.false))
