@@ -1,5 +1,5 @@
 -- Laws of reading one field, one for each branch of `field_at`: a run of letters, a colon, a run of digits, then a comma or the end.
-use Rattle.std.specs.Prelude.{ℕ, suc, ◌+◌, ◌-◌, ◌≤◌, ◌<◌, ◌≡◌, refl, Bool, true, false, cond, ◌&&◌, List, eqb, ltb, get_or, take, None}
+use Rattle.std.specs.Prelude.{ℕ, suc, ◌+◌, ◌-◌, ◌≤◌, ◌<◌, ◌≡◌, refl, Bool, true, false, cond, ◌&&◌, List, eqb, ltb, get_or, take, None, Some}
 use Rattle.std.proofs.Math.Path.{sym}
 use Rattle.std.proofs.Common.{◌∙◌, ap, true≢false, get_or-take, get_or-drop, drop-drop}
 use Rattle.std.proofs.Math.Bool.{not, and-false}
@@ -9,14 +9,13 @@ use Rattle.std.proofs.Math.ListN.{length, drop, length-drop, get_or-eq_default}
 use Rattle.std.proofs.Math.Seq.{length-take-le}
 use Rattle.text.specs.Text.{span, within, is_not, is_letter}
 use Rattle.text.specs.Laws.{span_le, span_next, every_narrower, span_drop, drop_run, span_ends, span_goes_on}
-use Rattle.numeral.specs.declared.Numeral.TheVariants as numeral
-use Rattle.numeral.specs.declared.Numeral.TheVariants.{Read}
+use Rattle.numeral.specs.declared.Numeral.{Numeral}
+use Rattle.numeral.specs.Var.{numeral_of}
 use Rattle.numeral.specs.Hex.{digit_of, is_digit, hex_value, shaped, hex_of, hex_run_at}
 use Rattle.numeral.specs.HexRunLaws.{whole, hex_of_part}
-use Rattle.line.specs.declared.field.Part.TheVariants as part
 use Rattle.names.specs.Names.{comma, part_from}
 use Rattle.names.specs.PartsLaws.{length_part, letters_size, letters_in}
-use Rattle.line.specs.Field.{colon, valued, field_of, part_at}
+use Rattle.line.specs.Field.{colon, valued, field_of, of_places, part_at}
 
 -- ## Digits are no commas
 digit_not_comma : (x : ℕ) → is_digit x ≡ true → is_not comma x ≡ true
@@ -60,15 +59,15 @@ colon_in_part line i n h = go (ltb n size) refl
         let no_colon : get_or line (i + n) 0 ≡ colon → ⊥ = λ s. after_part line i (rw all at s) in
         rw (none_left, ne_eqb (get_or line (i + n) 0) colon no_colon)
 
-pub run_next : (s : List ℕ) (i v next : ℕ) → hex_run_at s i ≡ Read v next → next ≡ i + span is_digit (drop i s)
+pub run_next : (s : List ℕ) (i : ℕ) (n : Numeral) → hex_run_at s i ≡ Some n → n.next ≡ i + span is_digit (drop i s)
 unfolding hex_run_at
-run_next s i v next e = go (shaped run) e
+run_next s i n e = go (shaped run) e
   where
     run : List ℕ
     run = take (span is_digit (drop i s)) (drop i s)
 
-    go : (t : Bool) → cond t (Read (hex_value run) (i + length run)) numeral.Bad ≡ Read v next → next ≡ i + span is_digit (drop i s)
-    go true e = let n : next ≡ i + length run = cc in omega (arith, length-take-le _ (drop i s) (span_le is_digit (drop i s)))
+    go : (t : Bool) → cond t (numeral_of (hex_value run) (i + length run)) None ≡ Some n → n.next ≡ i + span is_digit (drop i s)
+    go true e = let there : n.next ≡ i + length run = cc in omega (arith, length-take-le _ (drop i s) (span_le is_digit (drop i s)))
     go false e = absurd (true≢false cc)
 
 module _ (line : List ℕ) (i colon_at : ℕ) (e : colon_at ≡ i + span is_letter (drop i line)) where
@@ -81,19 +80,19 @@ module _ (line : List ℕ) (i colon_at : ℕ) (e : colon_at ≡ i + span is_lett
       let place : i + (colon_at - i) ≡ colon_at = omega arith in
       rw (letters_size line i colon_at e, colon_in_part line i (colon_at - i) (letters_in line i colon_at e), place)
 
-  pub part_unnamed : colon_at - i < 1 → part_at line i ≡ part.Bad
+  pub part_unnamed : colon_at - i < 1 → part_at line i ≡ None
   unfolding part_at
   part_unnamed h = rw (part_tested, lt-leb 1 (colon_at - i) h)
 
-  pub part_long : 16 < colon_at - i → part_at line i ≡ part.Bad
+  pub part_long : 16 < colon_at - i → part_at line i ≡ None
   unfolding part_at
   part_long h = rw (part_tested, le-leb 1 (colon_at - i) (omega arith), lt-leb (colon_at - i) 16 h)
 
-  pub part_other : (get_or line colon_at 0 ≡ colon → ⊥) → part_at line i ≡ part.Bad
+  pub part_other : (get_or line colon_at 0 ≡ colon → ⊥) → part_at line i ≡ None
   unfolding part_at
   part_other f = rw (part_tested, ne_eqb (get_or line colon_at 0) colon f, and-false)
 
-  pub part_cut : length line ≤ colon_at → part_at line i ≡ part.Bad
+  pub part_cut : length line ≤ colon_at → part_at line i ≡ None
   part_cut h = part_other (λ s. omega (arith, s, get_or-eq_default line 0 {n = colon_at} h))
 
   module _ (some-letters : 1 ≤ colon_at - i) (few : colon_at - i ≤ 16) (at-colon : get_or line colon_at 0 ≡ colon) where
@@ -136,37 +135,37 @@ module _ (line : List ℕ) (i colon_at : ℕ) (e : colon_at ≡ i + span is_lett
         let there = rw (drop-drop (suc (colon_at - i)) i line, place) at more in
         omega (arith, length_part line i)
 
-    pub part_numberless : hex_run_at line (colon_at + 1) ≡ numeral.Bad → part_at line i ≡ part.Bad
+    pub part_numberless : hex_run_at line (colon_at + 1) ≡ None → part_at line i ≡ None
     unfolding part_at
     part_numberless q = rw (part_whole, q)
 
-    module _ (v next : ℕ) (q : hex_run_at line (colon_at + 1) ≡ Read v next) where
-      next_byte : get_or (drop (colon_at + 1) line) (span is_digit (drop (colon_at + 1) line)) 0 ≡ get_or line next 0
+    module _ (n : Numeral) (q : hex_run_at line (colon_at + 1) ≡ Some n) where
+      next_byte : get_or (drop (colon_at + 1) line) (span is_digit (drop (colon_at + 1) line)) 0 ≡ get_or line n.next 0
       next_byte =
-          let place = run_next line (colon_at + 1) v next q in
+          let place = run_next line (colon_at + 1) n q in
           get_or-drop (colon_at + 1) line (span is_digit (drop (colon_at + 1) line)) 0 ∙ ap (λ (k : ℕ). get_or line k 0) (sym place)
 
-      pub part_followed : next < length line → (get_or line next 0 ≡ comma → ⊥) → part_at line i ≡ part.Bad
+      pub part_followed : n.next < length line → (get_or line n.next 0 ≡ comma → ⊥) → part_at line i ≡ None
       unfolding part_at
       part_followed h f =
           let rest = drop (colon_at + 1) line in
-          let place = run_next line (colon_at + 1) v next q in
+          let place = run_next line (colon_at + 1) n q in
           let more =
           span_goes_on is_digit (is_not comma) digit_not_comma rest (omega (arith, length-drop (colon_at + 1) line))
-          (rw next_byte (ap not (ne_eqb (get_or line next 0) comma f))) in
-          let other : next ≡ colon_at + 1 + span (is_not comma) rest → ⊥ = λ s. more (omega arith) in
-          rw (part_whole, q, ne_eqb next (colon_at + 1 + span (is_not comma) rest) other)
+          (rw next_byte (ap not (ne_eqb (get_or line n.next 0) comma f))) in
+          let other : n.next ≡ colon_at + 1 + span (is_not comma) rest → ⊥ = λ s. more (omega arith) in
+          rw (part_whole, q, ne_eqb n.next (colon_at + 1 + span (is_not comma) rest) other)
 
-      pub part_ends : (next < length line → get_or line next 0 ≡ comma) → part_at line i ≡ part.Field colon_at v next
+      pub part_ends : (n.next < length line → get_or line n.next 0 ≡ comma) → part_at line i ≡ of_places colon_at n.value n.next
       unfolding part_at
       part_ends f =
           let rest = drop (colon_at + 1) line in
-          let place = run_next line (colon_at + 1) v next q in
+          let place = run_next line (colon_at + 1) n q in
           let ends =
           span_ends is_digit (is_not comma) digit_not_comma rest
-          (λ h. rw next_byte (ap not (eq-eqb (get_or line next 0) comma (f (omega (arith, length-drop (colon_at + 1) line)))))) in
-          let all : next ≡ colon_at + 1 + span (is_not comma) rest = omega arith in
+          (λ h. rw next_byte (ap not (eq-eqb (get_or line n.next 0) comma (f (omega (arith, length-drop (colon_at + 1) line)))))) in
+          let all : n.next ≡ colon_at + 1 + span (is_not comma) rest = omega arith in
           let name : i + length (take (colon_at - i) (part_from line i)) ≡ colon_at =
           omega (arith, length-take-le (colon_at - i) (part_from line i) (omega (arith, letters_in line i colon_at e, length_part line i))) in
-          let end : i + length (part_from line i) ≡ next = part_end ∙ sym all in
-          rw (part_whole, q, eq-eqb next (colon_at + 1 + span (is_not comma) rest) all, name, end)
+          let end : i + length (part_from line i) ≡ n.next = part_end ∙ sym all in
+          rw (part_whole, q, eq-eqb n.next (colon_at + 1 + span (is_not comma) rest) all, name, end)

@@ -6,39 +6,42 @@
 --   fields_of line    the fields of a line; none where the line breaks a rule
 --   right_sum e line  the last field is a right `fletcher` in the edition e
 --   known             the names that the file's lines are asked for, in the order of their numbers
+--   text_of n         the letters of a known name
 --   read_of line      what a line says of each known name; nothing where the line breaks a rule
-use Rattle.std.specs.Prelude.{ℕ, zero, suc, Bool, true, false, cond, not, ◌&&◌, ◌||◌, List, [], ◌∷◌, map, eqb, length, get_or, take, drop, replicate, None, Option, Some}
+use Rattle.std.specs.Prelude.{ℕ, zero, suc, Bool, true, false, cond, not, ◌&&◌, ◌||◌, List, [], ◌∷◌, map, eqb, length, get_or, take, drop, None, Option, Some, option_map}
 use Rattle.text.specs.Text.{same, split}
 use Rattle.fletcher.specs.declared.Edition.{Edition}
 use Rattle.fletcher.specs.Fletcher.{fletcher_of}
 use Rattle.line.specs.declared.read.Fields.{Fields}
+use Rattle.line.specs.declared.read.Name.{Name}
+use Rattle.line.specs.declared.read.Name.TheVariants as name
 use Rattle.names.specs.Names.{comma}
-use Rattle.line.specs.Field.{Field, field_of}
+use Rattle.line.specs.Field.{Named, field_of}
 
 abbrev pub on_some : {A B : Type 0} → Option A → B → (A → B) → B
 on_some None b f = b
 on_some (Some a) b f = f a
 
-unfoldable pub has : List ℕ → List Field → Bool
+unfoldable pub has : List ℕ → List Named → Bool
 has name [] = false
 has name (f ∷ fs) = same name f.name || has name fs
 
-unfoldable pub value_in : List ℕ → List Field → Option ℕ
+unfoldable pub value_in : List ℕ → List Named → Option ℕ
 value_in name [] = None
 value_in name (f ∷ fs) = cond (same name f.name) (Some f.value) (value_in name fs)
 
 -- "No name occurs twice."
-unfoldable pub none_twice : List Field → Bool
+unfoldable pub none_twice : List Named → Bool
 none_twice [] = true
 none_twice (f ∷ fs) = not (has f.name fs) && none_twice fs
 
 -- every part is a field
-unfoldable pub all_fields : List (List ℕ) → Option (List Field)
+unfoldable pub all_fields : List (List ℕ) → Option (List Named)
 all_fields [] = Some []
 all_fields (p ∷ ps) = on_some (field_of p) None (λ f. on_some (all_fields ps) None (λ fs. Some (f ∷ fs)))
 
 -- "A line is one or more fields joined by single commas"
-unfoldable pub fields_of : List ℕ → Option (List Field)
+unfoldable pub fields_of : List ℕ → Option (List Named)
 fields_of line = on_some (all_fields (split comma line)) None (λ fs. cond (none_twice fs) (Some fs) None)
 
 -- ## The names of 01's lines
@@ -79,16 +82,25 @@ abbrev pub known : List (List ℕ)
 known =
     name_h ∷ name_block_size ∷ name_format ∷ name_block ∷ name_chunk ∷ name_version ∷ name_len ∷ name_next ∷ name_pages ∷ name_root ∷ name_fletcher ∷ []
 
+abbrev pub text_of : Name → List ℕ
+text_of name.H = name_h
+text_of name.BlockSize = name_block_size
+text_of name.Format = name_format
+text_of name.Block = name_block
+text_of name.Chunk = name_chunk
+text_of name.Version = name_version
+text_of name.Len = name_len
+text_of name.Next = name_next
+text_of name.Pages = name_pages
+text_of name.Root = name_root
+text_of name.Fletcher = name_fletcher
+
 -- "Unknown names are skipped."
-abbrev pub listed : List Field → Fields
-listed fs =
-    record { good = true; given = map (λ name. has name fs) known; values = map (λ name. on_some (value_in name fs) 0 (λ v. v)) known }
+abbrev pub listed : List Named → Fields
+listed fs = record { values = map (λ name. value_in name fs) known }
 
-abbrev pub no_fields : Fields
-no_fields = record { good = false; given = replicate 11 false; values = replicate 11 0 }
-
-unfoldable pub read_of : List ℕ → Fields
-read_of line = on_some (fields_of line) no_fields listed
+unfoldable pub read_of : List ℕ → Option Fields
+read_of line = option_map listed (fields_of line)
 
 -- ## The sum in the last field
 -- the place of the last comma among the first n bytes

@@ -1,9 +1,9 @@
 -- Laws of the line of an area.
-use Rattle.std.specs.Prelude.{ℕ, zero, suc, ◌-◌, ◌≤◌, ◌<◌, ◌≡◌, refl, Bool, true, false, cond, List, eqb, ltb, length, get_or}
+use Rattle.std.specs.Prelude.{ℕ, zero, suc, ◌-◌, ◌≤◌, ◌<◌, ◌≡◌, refl, Bool, true, false, cond, List, eqb, ltb, length, get_or, Some, None}
 use Rattle.std.proofs.Common.{true≢false, arith, ltb-true, eq-eqb, ne_eqb}
 use Rattle.text.specs.Text.{span, is_not}
-use Rattle.line.specs.declared.Line.TheVariants.{At, Nothing}
-use Rattle.line.specs.Line.{trimmed, line_of}
+use Rattle.line.specs.declared.Line.{Line}
+use Rattle.line.specs.Line.{trimmed, line_at, line_of}
 
 -- ## One for each branch of the loop that trims
 pub trimmed_space : (n : ℕ) (s : List ℕ) → 0 < n → get_or s (n - 1) 0 ≡ 32 → trimmed n s ≡ trimmed (n - 1) s
@@ -34,15 +34,15 @@ pub record Inside (area : List ℕ) (len newline : ℕ) : Type 0 where
   pub before : len ≤ newline
   pub inside : newline < length area
 
-pub line_inside : (area : List ℕ) (len newline : ℕ) → line_of area ≡ At len newline → Inside area len newline
+pub line_inside : (area : List ℕ) (l : Line) → line_of area ≡ Some l → Inside area l.len l.newline
 unfolding line_of
-line_inside area len newline e = go (ltb (span (is_not 10) area) (length area)) refl e
+line_inside area l e = go (ltb (span (is_not 10) area) (length area)) refl e
   where
     go : (t : Bool) → ltb (span (is_not 10) area) (length area) ≡ t →
-        cond t (At (trimmed (span (is_not 10) area) area) (span (is_not 10) area)) Nothing ≡ At len newline → Inside area len newline
+        cond t (line_at (trimmed (span (is_not 10) area) area) (span (is_not 10) area)) None ≡ Some l → Inside area l.len l.newline
     go true h e =
-        let size : trimmed (span (is_not 10) area) area ≡ len = cc in
-        let place : span (is_not 10) area ≡ newline = cc in
+        let size : trimmed (span (is_not 10) area) area ≡ l.len = cc in
+        let place : span (is_not 10) area ≡ l.newline = cc in
         record {
           before = omega (arith, trimmed_le (span (is_not 10) area) area);
           inside = omega (arith, ltb-true (span (is_not 10) area) (length area) h);

@@ -1,11 +1,13 @@
 -- Laws of the known names and their numbers.
-use Rattle.std.specs.Prelude.{ℕ, zero, suc, ◌+◌, ◌<◌, ◌≡◌, refl, Bool, true, false, cond, List, [], ◌∷◌, eqb, length, get_or}
+use Rattle.std.specs.Prelude.{ℕ, zero, suc, ◌+◌, ◌<◌, ◌≡◌, refl, Bool, true, false, cond, List, [], ◌∷◌, eqb, length, get_or, Some, None, slice_get, ◌≤◌}
 use Rattle.std.proofs.Common.{sym, ◌∙◌, ap, true≢false, arith, eq-eqb, ne_eqb, eqb-true}
 use Rattle.std.proofs.lemmas.Bool.{eqb-false}
 use Rattle.text.specs.Text.{same}
 use Rattle.text.specs.Laws.{same_self, same_eq}
-use Rattle.line.specs.Fields.{known}
-use Rattle.line.specs.Reading.{number_of, slot_of}
+use Rattle.line.specs.declared.read.Name.{Name}
+use Rattle.line.specs.declared.read.Name.TheVariants as name
+use Rattle.line.specs.Fields.{known, text_of}
+use Rattle.line.specs.Reading.{number_of, slot_of, known_names, place_of, known_name}
 
 -- a name whose number is below the count stands there
 number_name : (name : List ℕ) (names : List (List ℕ)) → number_of name names < length names → get_or names (number_of name names) [] ≡ name
@@ -74,3 +76,64 @@ eqb_comm a b = go (eqb a b) refl
 pub same_slot : (a b : List ℕ) → slot_of a < 11 → same a b ≡ eqb (slot_of a) (slot_of b)
 same_slot a b h =
     ap (λ (n : List ℕ). same n b) (sym (slot_name a h)) ∙ same_known (slot_of a) b h ∙ eqb_comm (slot_of b) (slot_of a)
+
+-- ## The names as the code has them
+place_here : (n : Name) → slot_of (text_of n) ≡ place_of n
+unfolding slot_of number_of same
+place_here name.H = refl
+place_here name.BlockSize = refl
+place_here name.Format = refl
+place_here name.Block = refl
+place_here name.Chunk = refl
+place_here name.Version = refl
+place_here name.Len = refl
+place_here name.Next = refl
+place_here name.Pages = refl
+place_here name.Root = refl
+place_here name.Fletcher = refl
+
+pub place_slot : (n : Name) → place_of n ≡ slot_of (text_of n)
+place_slot n = sym (place_here n)
+
+pub place_small : (n : Name) → place_of n < 11
+place_small name.H = omega arith
+place_small name.BlockSize = omega arith
+place_small name.Format = omega arith
+place_small name.Block = omega arith
+place_small name.Chunk = omega arith
+place_small name.Version = omega arith
+place_small name.Len = omega arith
+place_small name.Next = omega arith
+place_small name.Pages = omega arith
+place_small name.Root = omega arith
+place_small name.Fletcher = omega arith
+
+-- each name stands in its place, from i on
+unfoldable placed : ℕ → List Name → Bool
+placed i [] = true
+placed i (n ∷ names) = cond (eqb (place_of n) i) (placed (suc i) names) false
+
+placed_at : (i k : ℕ) (names : List Name) {n : Name} → placed i names ≡ true → slice_get names k ≡ Some n → i + k ≡ place_of n
+unfolding placed
+placed_at i k [] e h = absurd (true≢false cc)
+placed_at i k (m ∷ names) {n} e h = go (eqb (place_of m) i) refl (λ j. placed_at (suc i) j names {n = n}) e k h
+  where
+    go : (t : Bool) → eqb (place_of m) i ≡ t → ((j : ℕ) → placed (suc i) names ≡ true → slice_get names j ≡ Some n → suc i + j ≡ place_of n) →
+        cond t (placed (suc i) names) false ≡ true → (k : ℕ) → slice_get (m ∷ names) k ≡ Some n → i + k ≡ place_of n
+    go true q ih e zero h = let same_name : m ≡ n = cc in omega (arith, eqb-true (place_of m) i q, ap place_of same_name)
+    go true q ih e (suc j) h = omega (arith, ih j e h)
+    go false q ih e k h = absurd (true≢false cc)
+
+-- a known name is in its place, and any other letters in none
+pub known_some : (s : List ℕ) {n : Name} → known_name s ≡ Some n → slot_of s ≡ place_of n
+unfolding known_name placed
+known_some s e = omega (arith, placed_at 0 (slot_of s) known_names refl e)
+
+got_none : (k : ℕ) (names : List Name) → slice_get names k ≡ None → length names ≤ k
+got_none k [] e = omega arith
+got_none zero (n ∷ names) e = absurd (true≢false cc)
+got_none (suc k) (n ∷ names) e = omega (arith, got_none k names e)
+
+pub known_none : (s : List ℕ) → known_name s ≡ None → 11 ≤ slot_of s
+unfolding known_name
+known_none s e = got_none (slot_of s) known_names e

@@ -1,6 +1,6 @@
 -- Laws of the sum in the last field, one for each branch of the code.
 use Prim.Native.Nat.{ℕ, suc, ◌+◌, ◌-◌, ◌≤◌, ◌<◌}
-use Rattle.std.specs.Prelude.{◌≡◌, true, false, not, List, eqb, length, get_or, take, drop, Some}
+use Rattle.std.specs.Prelude.{◌≡◌, true, false, not, List, eqb, length, get_or, take, drop, Some, None}
 use Rattle.std.proofs.Common.{sym, ◌∙◌, eq-eqb, ne_eqb, eqb-true}
 use Rattle.std.proofs.Math.Path.{ap}
 use Rattle.std.proofs.Math.Numerals.{add-one}
@@ -10,7 +10,7 @@ use Rattle.text.specs.Text.{span, every, is_not, same}
 use Rattle.text.specs.Laws.{every_span, every_on}
 use Rattle.fletcher.specs.declared.Edition.{Edition}
 use Rattle.fletcher.specs.Fletcher.{fletcher_of}
-use Rattle.line.specs.declared.field.Part.TheVariants as part
+use Rattle.line.specs.declared.field.Field.{Field}
 use Rattle.names.specs.Names.{comma, part_from}
 use Rattle.line.specs.Field.{part_at}
 use Rattle.line.specs.Fields.{name_fletcher, last_comma, right_sum}
@@ -50,16 +50,16 @@ module _ (edition : Edition) (line : List ℕ) (n : ℕ) (alone : every (is_not 
       let all = eqb-true (span (is_not comma) rest) (length rest) (sym (every_span (is_not comma) rest) ∙ alone) in
       rw (all, take-length rest)
 
-  pub ends_bad : part.Bad ≡ part_at line (n + 1) → ends_right edition line n ≡ false
+  pub ends_bad : None ≡ part_at line (n + 1) → ends_right edition line n ≡ false
   unfolding ends_right
   ends_bad e = rw (← add-one n, ← last_part, part_bad line (n + 1) e)
 
-  module _ {colon value end : ℕ} (p : Placed line (n + 1) colon value end) where
-    pub ends_other : same name_fletcher (take (colon - (n + 1)) (drop (n + 1) line)) ≡ false → ends_right edition line n ≡ false
+  module _ {f : Field} (p : Placed line (n + 1) f) where
+    pub ends_other : same name_fletcher (take (f.colon - (n + 1)) (drop (n + 1) line)) ≡ false → ends_right edition line n ≡ false
     unfolding ends_right
     ends_other e = rw (← add-one n, ← last_part, p.field, e)
 
-    pub ends_sum : same name_fletcher (take (colon - (n + 1)) (drop (n + 1) line)) ≡ true →
-        ends_right edition line n ≡ eqb value (fletcher_of edition (take n line))
+    pub ends_sum : same name_fletcher (take (f.colon - (n + 1)) (drop (n + 1) line)) ≡ true →
+        ends_right edition line n ≡ eqb f.value (fletcher_of edition (take n line))
     unfolding ends_right
     ends_sum e = rw (← add-one n, ← last_part, p.field, e)

@@ -2,49 +2,37 @@
 ghost use Rattle.std.specs.Prelude.{◌≡◌};
 ghost use Rattle.line.specs.Field.{part_at};
 
-use numeral::Numeral;
-
 // A field by places of its line: where its colon stands, its value, and where it ends.
-#[derive(Clone, Copy)]
-pub enum Part {
-    Field {
-        colon: usize,
-        value: u64,
-        end: usize,
-    },
-    Bad,
+#[derive(Clone, Copy, Debug, PartialEq, Eq)]
+pub struct Field {
+    pub colon: usize,
+    pub value: u64,
+    pub end: usize,
 }
 
 // The field that stands between `from` and the next comma or the line's end.
-pub fn field_at(line: &[u8], from: usize) -> Part
+pub fn field_at(line: &[u8], from: usize) -> Option<Field>
     ensures { result ≡ part_at line.now from }
 {
     let colon = text::letters_end(line, from);
     let n = colon - from;
-    if n < 1 {
-        return Part::Bad;
-    }
-    if 16 < n {
-        return Part::Bad;
+    if n < 1 || 16 < n {
+        return None;
     }
     if line.len() <= colon {
-        return Part::Bad;
+        return None;
     }
-    if line[colon] != 58 {
-        return Part::Bad;
+    if line[colon] != b':' {
+        return None;
     }
-    let digits = numeral::hex_at(line, colon + 1);
-    let Numeral::Read { value, next } = digits else {
-        return Part::Bad;
-    };
-    if next < line.len() {
-        if line[next] != 44 {
-            return Part::Bad;
-        }
+    let digits = numeral::hex_at(line, colon + 1)?;
+    let end = digits.next;
+    if end < line.len() && line[end] != b',' {
+        return None;
     }
-    Part::Field {
+    Some(Field {
         colon,
-        value,
-        end: next,
-    }
+        value: digits.value,
+        end,
+    })
 }

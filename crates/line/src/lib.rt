@@ -8,15 +8,15 @@ mod sum;
 ghost use Rattle.std.specs.Prelude.{◌≤◌, ◌≡◌, length};
 ghost use Rattle.line.specs.Line.{line_of, trimmed};
 
-pub use field::{Part, field_at};
-pub use read::{Fields, read_fields};
+pub use field::{Field, field_at};
+pub use read::{Fields, Name, read_fields};
 pub use sum::right_sum;
 
 // The line of an area: its length, and the place of the newline after it.
-#[derive(Clone, Copy)]
-pub enum Line {
-    At { len: usize, newline: usize },
-    Nothing,
+#[derive(Clone, Copy, Debug, PartialEq, Eq)]
+pub struct Line {
+    pub len: usize,
+    pub newline: usize,
 }
 
 // How many of the first `n` bytes of `s` are left without trailing spaces.
@@ -24,27 +24,25 @@ fn trim(s: &[u8], n: usize) -> usize
     requires { n ≤ length s.now }
     ensures { result ≡ trimmed n s.now }
 {
-    let mut left = n;
-    while 0 < left {
-        if s[left - 1] != 32 {
-            return left;
+    for i in (0..n).rev() {
+        if s[i] != b' ' {
+            return i + 1;
         }
-        left -= 1;
     }
     0
 }
 
 // The line that `area` begins with.
-pub fn line_of(area: &[u8]) -> Line
+pub fn line_of(area: &[u8]) -> Option<Line>
     ensures { result ≡ line_of area.now }
 {
-    let newline = text::find_byte(area, 0, 10);
+    let newline = text::find_byte(area, 0, b'\n');
     if newline < area.len() {
-        Line::At {
+        Some(Line {
             len: trim(area, newline),
             newline,
-        }
+        })
     } else {
-        Line::Nothing
+        None
     }
 }

@@ -5,7 +5,7 @@ ghost use Rattle.names.specs.Names.{comma};
 ghost use Rattle.line.specs.Fields.{right_sum};
 ghost use Rattle.line.specs.Reading.{ends_right};
 
-use super::field::{Part, field_at};
+use super::field::field_at;
 use fletcher::Edition;
 
 // Whether a right `fletcher` follows the last comma, which stands at `n`.
@@ -14,30 +14,19 @@ fn ends_right(edition: Edition, line: &[u8], n: usize) -> bool
     ensures { result ≡ ends_right edition line.now n }
 {
     let from = n + 1;
-    let p = field_at(line, from);
-    let Part::Field {
-        colon,
-        value,
-        end: _,
-    } = p
-    else {
+    let Some(field) = field_at(line, from) else {
         return false;
     };
-    if text::same_bytes(b"fletcher", &line[from..colon]) {
-        value == fletcher::sum_text(edition, &line[..n])
-    } else {
-        false
-    }
+    text::same_bytes(b"fletcher", &line[from..field.colon])
+        && field.value == fletcher::sum_text(edition, &line[..n])
 }
 
 // Whether the line's last field is `fletcher` and is right over the bytes before the comma in front.
 pub fn right_sum(edition: Edition, line: &[u8]) -> bool
     ensures { result ≡ right_sum edition line.now }
 {
-    let mut n = line.len();
-    while 0 < n {
-        n -= 1;
-        if line[n] == 44 {
+    for n in (0..line.len()).rev() {
+        if line[n] == b',' {
             return ends_right(edition, line, n);
         }
     }

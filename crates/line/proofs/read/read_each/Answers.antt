@@ -1,87 +1,88 @@
+use Prim.Native.Nat.{◌-◌}
+use lib.ListN.{take, drop}
 use mathlib.Core.Path.{◌≡◌, refl, sym, ◌∙◌}
 use native.Mathlib.Omega.{arith}
-use borrow.Author.Tests.{lt-ltb, le-ltb}
-use Rattle.line.specs.Reading.{put}
+use Rattle.line.specs.Reading.{slot_of, put}
 use Rattle.line.specs.FieldLaws.{part_placed}
 use Rattle.line.specs.ReadingLaws.{finish_bad, finish_end, finish_seen, finish_put}
 use Rattle.line.specs.ApartLaws.{read_start, read_unseen, read_on}
+use Rattle.line.specs.FillLaws.{put_known, put_other}
 use Rattle.line.proofs.read.read_each.Goals as goal
-use Rattle.line.proofs.read.read_each.Goals.{then-slot-lt-NAMES, else-slot-lt-NAMES}
+use Rattle.line.proofs.read.read_each.Goals.{in-Some, in_default}
 
-pub loop-colon-init : goal.loop-colon-init
-loop-colon-init c = read_start c.args.line.now c.requires
+pub loop-field-init : goal.loop-field-init
+loop-field-init c = read_start c.args.line.now c.requires
 
-pub returns-in_default : goal.returns-in_default
-returns-in_default c =
-    let l = c.loop-colon in
-    let bad = sym c.in_default.is ∙ c.field_at-p.ensures in
-    c.bad.ensures ∙ sym (finish_bad l.fields c.args.line.now l.i bad) ∙ l.invariant.rest
+pub returns-in_err-field : goal.returns-in_err-field
+returns-in_err-field c =
+    let l = c.loop-field in
+    let bad = sym c.in_err-field.was ∙ c.field_at.ensures in
+    c.from_residual.ensures ∙ sym (finish_bad l.fields c.args.line.now l.i bad) ∙ l.invariant.rest
 
 pub slice_bounds-name-count : goal.slice_bounds-name-count
 slice_bounds-name-count c =
-    let p = part_placed (sym c.in-Field.is ∙ c.field_at-p.ensures) in
+    let p = part_placed (sym c.in_ok-field.was ∙ c.field_at.ensures) in
     omega (arith, p.after, p.before, p.inside)
 
 pub slice_bounds-name-start : goal.slice_bounds-name-start
 slice_bounds-name-start c =
-    let p = part_placed (sym c.in-Field.is ∙ c.field_at-p.ensures) in
+    let p = part_placed (sym c.in_ok-field.was ∙ c.field_at.ensures) in
     omega (arith, p.after, p.before, p.inside)
 
 pub slice_bounds-name-end : goal.slice_bounds-name-end
 slice_bounds-name-end c =
-    let p = part_placed (sym c.in-Field.is ∙ c.field_at-p.ensures) in
+    let p = part_placed (sym c.in_ok-field.was ∙ c.field_at.ensures) in
     omega (arith, p.after, p.before, p.inside)
 
 pub repeats-requires : goal.repeats-requires
-repeats-requires c = λ t.
-    let p = part_placed (sym c.in-Field.is ∙ c.field_at-p.ensures) in
-    rw c.slot_of-slot.ensures (read_unseen c.loop-colon.invariant p t)
+repeats-requires c =
+    let p = part_placed (sym c.in_ok-field.was ∙ c.field_at.ensures) in
+    record { known = c.slot_of-known.ensures; apart = λ t. read_unseen c.loop-field.invariant p t }
 
 pub returns-then-repeats : goal.returns-then-repeats
 returns-then-repeats c =
-    let l = c.loop-colon in
-    let p = part_placed (sym c.in-Field.is ∙ c.field_at-p.ensures) in
-    let s = rw c.slot_of-slot.ensures at c.repeats.ensures in
+    let l = c.loop-field in
+    let p = part_placed (sym c.in_ok-field.was ∙ c.field_at.ensures) in
+    let s = c.repeats.ensures in
     let line = c.args.line.now in
-    c.bad-then-repeats.ensures ∙ sym (finish_seen l.fields line l.i p s c.if-repeats.true) ∙ l.invariant.rest
+    sym (finish_seen l.fields line l.i p s c.if-repeats.true) ∙ l.invariant.rest
 
-pub returns-then-end-line : goal.returns-then-end-line
-unfolding put
-returns-then-end-line c =
-    let l = c.loop-colon in
+pub returns-then-field-line : goal.returns-then-field-line
+returns-then-field-line c =
+    let l = c.loop-field in
     let line = c.args.line.now in
-    let p = part_placed (sym c.in-Field.is ∙ c.field_at-p.ensures) in
-    let s = rw c.slot_of-slot.ensures at c.repeats.ensures in
+    let p = part_placed (sym c.in_ok-field.was ∙ c.field_at.ensures) in
+    let name = take (c.in_ok-field.field.colon - l.i) (drop l.i line) in
+    let known = c.slot_of-known.ensures in
     -- what is read so far, with this field's value
-    let with_value : c.if-slot-lt-NAMES.fields ≡ put c.loop-colon.fields c.slot_of-slot.result c.in-Field.value =
-    elim c.if-slot-lt-NAMES.branch [
-      | then-slot-lt-NAMES w ↦ w.fields-is ∙ rw (lt-ltb _ 11 w.if-slot-lt-NAMES.true)
-      | else-slot-lt-NAMES w ↦ w.fields-is ∙ rw (le-ltb _ 11 w.if-slot-lt-NAMES.false)
+    let with_value : c.match-known.fields ≡ put l.fields (slot_of name) c.in_ok-field.field.value =
+    elim c.match-known.branch [
+      | in-Some w ↦ w.fields-is ∙ rw w.index.ensures (sym (put_known l.fields name c.in_ok-field.field.value (sym known ∙ w.in-Some.is)))
+      | in_default w ↦ w.fields-is ∙ sym (put_other l.fields name c.in_ok-field.field.value (sym known ∙ w.in_default.is))
     ] in
-    let f = rw c.slot_of-slot.ensures at with_value in
-    f ∙ sym (finish_end _ line _ (omega arith)) ∙ sym (finish_put l.fields line l.i p s c.if-repeats.false) ∙ l.invariant.rest
+    rw with_value (sym (finish_end _ line _ (omega arith))) ∙ sym (finish_put l.fields line l.i p c.repeats.ensures c.if-repeats.false) ∙ l.invariant.rest
 
 pub overflow_add-i : goal.overflow_add-i
 overflow_add-i c =
-    let p = part_placed (sym c.in-Field.is ∙ c.field_at-p.ensures) in
+    let p = part_placed (sym c.in_ok-field.was ∙ c.field_at.ensures) in
     omega (arith, p.after, p.before, p.inside)
 
-pub loop-colon-smaller : goal.loop-colon-smaller
-loop-colon-smaller c =
-    let p = part_placed (sym c.in-Field.is ∙ c.field_at-p.ensures) in
+pub loop-field-smaller : goal.loop-field-smaller
+loop-field-smaller c =
+    let p = part_placed (sym c.in_ok-field.was ∙ c.field_at.ensures) in
     omega (arith, p.after, p.before, p.inside)
 
-pub loop-colon-preserved : goal.loop-colon-preserved
-unfolding put
-loop-colon-preserved c =
-    let l = c.loop-colon in
-    let p = part_placed (sym c.in-Field.is ∙ c.field_at-p.ensures) in
-    let s = rw c.slot_of-slot.ensures at c.repeats.ensures in
+pub loop-field-preserved : goal.loop-field-preserved
+loop-field-preserved c =
+    let l = c.loop-field in
+    let line = c.args.line.now in
+    let p = part_placed (sym c.in_ok-field.was ∙ c.field_at.ensures) in
+    let name = take (c.in_ok-field.field.colon - l.i) (drop l.i line) in
+    let known = c.slot_of-known.ensures in
     -- what is read so far, with this field's value
-    let with_value : c.if-slot-lt-NAMES.fields ≡ put c.loop-colon.fields c.slot_of-slot.result c.in-Field.value =
-    elim c.if-slot-lt-NAMES.branch [
-      | then-slot-lt-NAMES w ↦ w.fields-is ∙ rw (lt-ltb _ 11 w.if-slot-lt-NAMES.true)
-      | else-slot-lt-NAMES w ↦ w.fields-is ∙ rw (le-ltb _ 11 w.if-slot-lt-NAMES.false)
+    let with_value : c.match-known.fields ≡ put l.fields (slot_of name) c.in_ok-field.field.value =
+    elim c.match-known.branch [
+      | in-Some w ↦ w.fields-is ∙ rw w.index.ensures (sym (put_known l.fields name c.in_ok-field.field.value (sym known ∙ w.in-Some.is)))
+      | in_default w ↦ w.fields-is ∙ sym (put_other l.fields name c.in_ok-field.field.value (sym known ∙ w.in_default.is))
     ] in
-    let f = rw c.slot_of-slot.ensures at with_value in
-    read_on l.invariant p s c.if-repeats.false (omega (arith, p.inside, c.if-end-line.false)) f refl
+    read_on l.invariant p c.repeats.ensures c.if-repeats.false (omega (arith, p.inside, c.if-field-line.false)) with_value refl

@@ -11,4 +11,4 @@ read_each-requires-then-are_distinct c = λ t. sym c.are_distinct.ensures ∙ c.
 pub returns-else-are_distinct : goal.returns-else-are_distinct
 returns-else-are_distinct c =
     let line = c.args.line.now in
-    c.bad.ensures ∙ sym (read_indistinct line (sym c.are_distinct.ensures ∙ c.if-are_distinct.false))
+    sym (read_indistinct line (sym c.are_distinct.ensures ∙ c.if-are_distinct.false))

@@ -1,15 +1,20 @@
-use mathlib.Core.Path.{sym}
+use mathlib.Core.Path.{sym, ◌∙◌}
 use borrow.Author.Tests.{lt-ltb, le-ltb}
-use Rattle.line.specs.Reading.{seen}
+use Rattle.line.specs.Reading.{place_of, seen}
+use Rattle.line.specs.SlotLaws.{place_slot, place_small, known_some, known_none}
 use Rattle.line.proofs.read.repeats.Goals as goal
 
 pub returns-then-apart : goal.returns-then-apart
-returns-then-apart c = sym (c.requires c.if-apart.true)
+returns-then-apart c = sym (c.requires.apart c.if-apart.true)
 
-pub returns-then-slot-lt-NAMES : goal.returns-then-slot-lt-NAMES
+pub returns-in-Some : goal.returns-in-Some
 unfolding seen
-returns-then-slot-lt-NAMES c = rw (lt-ltb _ 11 c.if-slot-lt-NAMES.true)
+returns-in-Some c =
+    let k = c.in-Some.k in
+    let place = known_some c.args.name.now (sym c.requires.known ∙ c.in-Some.is) in
+    rw (place, lt-ltb (place_of k) 11 (place_small k), place_slot k, ← c.get.ensures) c.is_some.ensures
 
-pub returns-else-slot-lt-NAMES : goal.returns-else-slot-lt-NAMES
+pub returns-in-None : goal.returns-in-None
 unfolding seen
-returns-else-slot-lt-NAMES c = rw (le-ltb _ 11 c.if-slot-lt-NAMES.false, c.named_later.ensures)
+returns-in-None c =
+    rw (le-ltb _ 11 (known_none c.args.name.now (sym c.requires.known ∙ c.in-None.is)), c.named_later.ensures)

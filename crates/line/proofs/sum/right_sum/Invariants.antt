@@ -1,4 +1,3 @@
-use Prim.Native.Nat.{◌≤◌}
 use mathlib.Core.Path.{◌≡◌}
 use mathlib.Core.Bool.{true}
 use lib.ListN.{length, drop}
@@ -8,7 +7,4 @@ use Rattle.line.specs.Fields.{last_comma}
 use Rattle.line.proofs.sum.right_sum.Given as goal
 
 abbrev pub invariant-loop-n : goal.invariant-loop-n
-invariant-loop-n l = (l.n ≤ length l.line) × (every (is_not comma) (drop l.n l.line) ≡ true) × (last_comma l.n l.line ≡ last_comma (length l.line) l.line)
-
-abbrev pub decreases-loop-n : goal.decreases-loop-n
-decreases-loop-n l = l.n
+invariant-loop-n l = (every (is_not comma) (drop l.n l.line) ≡ true) × (last_comma l.n l.line ≡ last_comma (length l.line) l.line)
