@@ -10,29 +10,27 @@ use native.Mathlib.Omega.{arith}
 use borrow.Author.Tests.{lt-ltb, le-ltb, ltb-true}
 use Rattle.std.proofs.Math.Dec.{ltb}
 use Rattle.numeral.specs.declared.Numeral.{Numeral}
-use Rattle.numeral.specs.declared.Numeral.TheVariants.{Read, Bad}
 use Rattle.numeral.specs.Var.{var_at}
 use Rattle.item.specs.declared.Counted.{Counted}
-use Rattle.item.specs.declared.Counted.TheVariants.{Sum, Stuck}
 use Rattle.item.specs.Step.{Step, got, bad, on_step, after, up_to}
 use Rattle.item.specs.StepLaws.{on_some, get_d_elem, after_more, after_bad, up_to_past, up_to_nth, item_of}
 use Rattle.item.specs.Item.{on_numeral, count_limit, count_at, counted_of, counted}
 
 module _ (s : List ℕ) where
   -- ## One count
-  pub count_bad : (i sum : ℕ) → var_at count_limit s i ≡ Bad → count_at s (i, sum) ≡ bad
+  pub count_bad : (i sum : ℕ) → var_at count_limit s i ≡ None → count_at s (i, sum) ≡ bad
   unfolding count_at
   count_bad i sum e = rw e
 
-  module _ (i sum : ℕ) {v next : ℕ} (e : var_at count_limit s i ≡ Read v next) where
-    pub count_at_lem : sum + v < count_limit → count_at s (i, sum) ≡ got v (next, sum + v)
+  module _ (i sum : ℕ) {n : Numeral} (e : var_at count_limit s i ≡ Some n) where
+    pub count_at_lem : sum + n.value < count_limit → count_at s (i, sum) ≡ got n.value (n.next, sum + n.value)
     unfolding count_at
-    count_at_lem h = rw (e, lt-ltb (sum + v) count_limit h)
+    count_at_lem h = rw (e, lt-ltb (sum + n.value) count_limit h)
 
     -- "the count that takes it there can't be read"
-    pub count_over : count_limit ≤ sum + v → count_at s (i, sum) ≡ bad
+    pub count_over : count_limit ≤ sum + n.value → count_at s (i, sum) ≡ bad
     unfolding count_at
-    count_over h = rw (e, le-ltb (sum + v) count_limit h)
+    count_over h = rw (e, le-ltb (sum + n.value) count_limit h)
 
   -- a count that reads is in the sum, which stays below 2^48
   pub count_sum : (c : ℕ × ℕ) {v : ℕ} {d : ℕ × ℕ} → count_at s c ≡ got v d → (d.1 ≡ c.1 + v) × (d.1 < count_limit)
@@ -49,33 +47,33 @@ module _ (s : List ℕ) where
           (omega arith, omega arith)
       by u next false q h = absurd (true≢false cc)
 
-      go : (r : Numeral) → on_numeral r bad (λ u next. cond (ltb (c.1 + u) count_limit) (got u (next, c.1 + u)) bad) ≡ got v d
+      go : (r : Option Numeral) → on_numeral r bad (λ u next. cond (ltb (c.1 + u) count_limit) (got u (next, c.1 + u)) bad) ≡ got v d
           → (d.1 ≡ c.1 + v) × (d.1 < count_limit)
-      go (Read u next) h = by u next (ltb (c.1 + u) count_limit) refl h
-      go Bad h = absurd (true≢false cc)
+      go (Some n) h = by n.value n.next (ltb (c.1 + n.value) count_limit) refl h
+      go None h = absurd (true≢false cc)
 
 -- ## A loop
-pub record Summing (s : List ℕ) (left i sum : ℕ) (answer : Counted) : Type 0 where
+pub record Summing (s : List ℕ) (left i sum : ℕ) (answer : Option Counted) : Type 0 where
   pub so_far : counted_of (after (count_at s) left (i, sum)) ≡ answer
 
 pub sum_begins : (s : List ℕ) (n i : ℕ) → Summing s n i 0 (counted s n i)
 unfolding counted
 sum_begins s n i = record { so_far = refl }
 
-module _ {s : List ℕ} {left i sum : ℕ} {answer : Counted} (l : Summing s left i sum answer) where
-  pub sum_none : left ≤ 0 → Sum sum i ≡ answer
+module _ {s : List ℕ} {left i sum : ℕ} {answer : Option Counted} (l : Summing s left i sum answer) where
+  pub sum_none : left ≤ 0 → Some (record { total = sum; next = i }) ≡ answer
   unfolding after
   sum_none h = let e : left ≡ 0 = omega arith in rw e at l.so_far
 
-  module _ {r : Numeral} (h : 0 < left) (e : r ≡ var_at count_limit s i) where
-    pub sum_bad : r ≡ Bad → Stuck ≡ answer
+  module _ {r : Option Numeral} (h : 0 < left) (e : r ≡ var_at count_limit s i) where
+    pub sum_bad : r ≡ None → None ≡ answer
     sum_bad t = rw (after_bad (count_at s) left (i, sum) h (count_bad s i sum (sym e ∙ t))) at l.so_far
 
-    module _ {v next : ℕ} (t : r ≡ Read v next) where
-      pub sum_over : count_limit ≤ sum + v → Stuck ≡ answer
+    module _ {n : Numeral} (t : r ≡ Some n) where
+      pub sum_over : count_limit ≤ sum + n.value → None ≡ answer
       sum_over k = rw (after_bad (count_at s) left (i, sum) h (count_over s i sum (sym e ∙ t) k)) at l.so_far
 
-      pub sum_more : sum + v < count_limit → Summing s (left - 1) next (sum + v) answer
+      pub sum_more : sum + n.value < count_limit → Summing s (left - 1) n.next (sum + n.value) answer
       sum_more k = record { so_far = rw (after_more (count_at s) left (i, sum) h (count_at_lem s i sum (sym e ∙ t) k)) at l.so_far }
 
 -- ## A count by its number
@@ -102,31 +100,30 @@ module _ (s : List ℕ) (n at k : ℕ) where
   pub nth_count_past : n ≤ k → get_or (up_to (count_at s) n (at, 0)) k 0 ≡ 0
   nth_count_past h = get_d_elem (up_to (count_at s) n (at, 0)) k 0 ∙ rw (up_to_past (count_at s) n k (at, 0) h)
 
-  pub nth_count_stuck : k < n → counted s k at ≡ Stuck → get_or (up_to (count_at s) n (at, 0)) k 0 ≡ 0
+  pub nth_count_stuck : k < n → counted s k at ≡ None → get_or (up_to (count_at s) n (at, 0)) k 0 ≡ 0
   unfolding counted
   nth_count_stuck h e = nth_count h ∙ go (after (count_at s) k (at, 0)) e
     where
-      go : (o : Option (ℕ × ℕ)) → counted_of o ≡ Stuck → on_some o 0 count_of ≡ 0
+      go : (o : Option (ℕ × ℕ)) → counted_of o ≡ None → on_some o 0 count_of ≡ 0
       go (Some c) q = absurd (true≢false cc)
       go None q = refl
 
-  module _ {total i : ℕ} (h : k < n) (e : counted s k at ≡ Sum total i) where
-    nth_count_sum : get_or (up_to (count_at s) n (at, 0)) k 0 ≡ on_step (count_at s (i, total)) 0 (λ a d. a)
+  module _ {m : Counted} (h : k < n) (e : counted s k at ≡ Some m) where
+    nth_count_sum : get_or (up_to (count_at s) n (at, 0)) k 0 ≡ on_step (count_at s (m.next, m.total)) 0 (λ a d. a)
     unfolding counted count_of
     nth_count_sum = nth_count h ∙ go (after (count_at s) k (at, 0)) e
       where
-        go : (o : Option (ℕ × ℕ)) → counted_of o ≡ Sum total i → on_some o 0 count_of ≡ count_of (i, total)
-        go (Some (j, m)) q =
-            let f : j ≡ i = cc in
-            let g : m ≡ total = cc in
-            rw (f, g)
+        go : (o : Option (ℕ × ℕ)) → counted_of o ≡ Some m → on_some o 0 count_of ≡ count_of (m.next, m.total)
+        go (Some (j, t)) q =
+            let f : record { total = t; next = j } ≡ m = cc in
+            rw (← f)
         go None q = absurd (true≢false cc)
 
-    pub nth_count_bad : var_at count_limit s i ≡ Bad → get_or (up_to (count_at s) n (at, 0)) k 0 ≡ 0
-    nth_count_bad b = nth_count_sum ∙ rw (count_bad s i total b)
+    pub nth_count_bad : var_at count_limit s m.next ≡ None → get_or (up_to (count_at s) n (at, 0)) k 0 ≡ 0
+    nth_count_bad b = nth_count_sum ∙ rw (count_bad s m.next m.total b)
 
-    pub nth_count_over : {v next : ℕ} → var_at count_limit s i ≡ Read v next → count_limit ≤ total + v → get_or (up_to (count_at s) n (at, 0)) k 0 ≡ 0
-    nth_count_over r l = nth_count_sum ∙ rw (count_over s i total r l)
+    pub nth_count_over : {r : Numeral} → var_at count_limit s m.next ≡ Some r → count_limit ≤ m.total + r.value → get_or (up_to (count_at s) n (at, 0)) k 0 ≡ 0
+    nth_count_over r l = nth_count_sum ∙ rw (count_over s m.next m.total r l)
 
-    pub nth_count_at : {v next : ℕ} → var_at count_limit s i ≡ Read v next → total + v < count_limit → get_or (up_to (count_at s) n (at, 0)) k 0 ≡ v
-    nth_count_at r l = nth_count_sum ∙ rw (count_at_lem s i total r l)
+    pub nth_count_at : {r : Numeral} → var_at count_limit s m.next ≡ Some r → m.total + r.value < count_limit → get_or (up_to (count_at s) n (at, 0)) k 0 ≡ r.value
+    nth_count_at r l = nth_count_sum ∙ rw (count_at_lem s m.next m.total r l)

@@ -4,38 +4,24 @@
 
 ghost use Rattle.std.specs.Prelude.{◌≡◌, get_or, slice_get};
 ghost use Rattle.item.specs.Step.{up_to};
-ghost use Rattle.item.specs.Item.{item_at, items, count_at, numbered_of, skipped, counted};
+ghost use Rattle.item.specs.Item.{item_at, items, count_at, skipped, counted};
 
 use key::{Kind, Sized};
-use numeral::Numeral;
+use text::Spot;
 
 // How an item is written: 8 bytes; a text key; a length and bytes.
-#[derive(Clone, Copy)]
+#[derive(Clone, Copy, Debug, PartialEq, Eq)]
 pub enum Form {
     Word,
     Text,
     Bytes,
 }
 
-// The place after some items.
-#[derive(Clone, Copy)]
-pub enum Skip {
-    Past(usize),
-    Stuck,
-}
-
-// An item by place and length.
-#[derive(Clone, Copy)]
-pub enum Numbered {
-    At { at: usize, len: usize },
-    Out,
-}
-
 // The sum of some recorded counts, and the place after them.
-#[derive(Clone, Copy)]
-pub enum Counted {
-    Sum { total: u64, next: usize },
-    Stuck,
+#[derive(Clone, Copy, Debug, PartialEq, Eq)]
+pub struct Counted {
+    pub total: u64,
+    pub next: usize,
 }
 
 // A value's length is below this.
@@ -45,7 +31,7 @@ const VALUE_LIMIT: u64 = 65536;
 pub const COUNT_LIMIT: u64 = 281474976710656;
 
 // The item of a form at a place.
-pub fn item_at(s: &[u8], form: Form, at: usize) -> Sized
+pub fn item_at(s: &[u8], form: Form, at: usize) -> Option<Sized>
     ensures { result ≡ item_at s.now form at }
 {
     match form {
@@ -56,121 +42,68 @@ pub fn item_at(s: &[u8], form: Form, at: usize) -> Sized
 }
 
 // Words need not be gone through one by one.
-fn skip_words(s: &[u8], n: u64, at: usize) -> Skip
+fn skip_words(s: &[u8], n: u64, at: usize) -> Option<usize>
     ensures { result ≡ skipped s.now Form.Word n at }
 {
     if n == 0 {
-        return Skip::Past(at);
+        return Some(at);
     }
-    if s.len() < at {
-        return Skip::Stuck;
-    }
-    let room = s.len() - at;
+    let room = s.len().checked_sub(at)?;
     if room as u64 / 8 < n {
-        return Skip::Stuck;
+        return None;
     }
-    Skip::Past(at + 8 * n as usize)
+    Some(at + 8 * n as usize)
 }
 
-// Text keys, and values, in a loop for each, which does not ask for the form of every item.
-fn skip_texts(s: &[u8], n: u64, at: usize) -> Skip
-    ensures { result ≡ skipped s.now Form.Text n at }
+// Other items have lengths of their own.
+fn skip_each(s: &[u8], form: Form, n: u64, at: usize) -> Option<usize>
+    ensures { result ≡ skipped s.now form n at }
 {
-    let mut left = n;
     let mut i = at;
-    while 0 < left {
-        let it = item_at(s, Form::Text, i);
-        let Sized::At {
-            at: _,
-            len: _,
-            next,
-        } = it
-        else {
-            return Skip::Stuck;
-        };
-        i = next;
-        left -= 1;
+    for _ in 0..n {
+        i = item_at(s, form, i)?.next;
     }
-    Skip::Past(i)
-}
-
-fn skip_values(s: &[u8], n: u64, at: usize) -> Skip
-    ensures { result ≡ skipped s.now Form.Bytes n at }
-{
-    let mut left = n;
-    let mut i = at;
-    while 0 < left {
-        let it = item_at(s, Form::Bytes, i);
-        let Sized::At {
-            at: _,
-            len: _,
-            next,
-        } = it
-        else {
-            return Skip::Stuck;
-        };
-        i = next;
-        left -= 1;
-    }
-    Skip::Past(i)
+    Some(i)
 }
 
 // The place after `n` items of a form.
-pub fn skip_items(s: &[u8], form: Form, n: u64, at: usize) -> Skip
+pub fn skip_items(s: &[u8], form: Form, n: u64, at: usize) -> Option<usize>
     ensures { result ≡ skipped s.now form n at }
 {
     match form {
         Form::Word => skip_words(s, n, at),
-        Form::Text => skip_texts(s, n, at),
-        Form::Bytes => skip_values(s, n, at),
+        Form::Text => skip_each(s, Form::Text, n, at),
+        Form::Bytes => skip_each(s, Form::Bytes, n, at),
     }
 }
 
 // Item number `k` of `n`, from 0.
-pub fn nth_item(s: &[u8], form: Form, n: u64, at: usize, k: u64) -> Numbered
-    ensures { result ≡ numbered_of (slice_get (up_to (items s.now form) n at) k) }
+pub fn nth_item(s: &[u8], form: Form, n: u64, at: usize, k: u64) -> Option<Spot>
+    ensures { result ≡ slice_get (up_to (items s.now form) n at) k }
 {
     if n <= k {
-        return Numbered::Out;
+        return None;
     }
-    let a = skip_items(s, form, k, at);
-    let Skip::Past(i) = a else {
-        return Numbered::Out;
-    };
-    let it = item_at(s, form, i);
-    match it {
-        Sized::At {
-            at: start,
-            len,
-            next: _,
-        } => Numbered::At { at: start, len },
-        Sized::Bad => Numbered::Out,
-    }
+    let i = skip_items(s, form, k, at)?;
+    let item = item_at(s, form, i)?;
+    Some(item.spot)
 }
 
 // The sum of `n` recorded counts, each of which keeps it below 2^48, and the place after them.
-pub fn sum_counts(s: &[u8], n: u64, at: usize) -> Counted
+pub fn sum_counts(s: &[u8], n: u64, at: usize) -> Option<Counted>
     ensures { result ≡ counted s.now n at }
 {
-    let mut left = n;
-    let mut i = at;
-    let mut sum: u64 = 0;
-    while 0 < left {
-        let v = numeral::read_var(s, i, COUNT_LIMIT);
-        let Numeral::Read { value, next } = v else {
-            return Counted::Stuck;
-        };
-        if COUNT_LIMIT - sum <= value {
-            return Counted::Stuck;
+    let mut next = at;
+    let mut total: u64 = 0;
+    for _ in 0..n {
+        let count = numeral::read_var(s, next, COUNT_LIMIT)?;
+        if COUNT_LIMIT - total <= count.value {
+            return None;
         }
-        sum += value;
-        i = next;
-        left -= 1;
+        total += count.value;
+        next = count.next;
     }
-    Counted::Sum {
-        total: sum,
-        next: i,
-    }
+    Some(Counted { total, next })
 }
 
 // Recorded count number `k` of `n`, from 0; 0 where there is none.
@@ -180,16 +113,14 @@ pub fn nth_count(s: &[u8], n: u64, at: usize, k: u64) -> u64
     if n <= k {
         return 0;
     }
-    let a = sum_counts(s, k, at);
-    let Counted::Sum { total, next: i } = a else {
+    let Some(before) = sum_counts(s, k, at) else {
         return 0;
     };
-    let v = numeral::read_var(s, i, COUNT_LIMIT);
-    let Numeral::Read { value, next: _ } = v else {
+    let Some(count) = numeral::read_var(s, before.next, COUNT_LIMIT) else {
         return 0;
     };
-    if COUNT_LIMIT - value <= total {
+    if COUNT_LIMIT - count.value <= before.total {
         return 0;
     }
-    value
+    count.value
 }
