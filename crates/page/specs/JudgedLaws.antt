@@ -2,24 +2,20 @@
 --
 --   Within m h  of a head that is not refused: its numbers, in an image of length m
 --   head_body   a page's items begin inside the page, the page ends inside the image, and its keys are fewer than 2^31
-use Rattle.std.specs.Prelude.{ℕ, ◌+◌, ◌-◌, ◌^◌, ◌<◌, ◌≤◌, ◌≡◌, refl, List, Bool, true, false, cond, eqb, ltb, leb, get_or, take}
+use Rattle.std.specs.Prelude.{ℕ, ◌+◌, ◌-◌, ◌^◌, ◌<◌, ◌≤◌, ◌≡◌, refl, List, Bool, true, false, cond, eqb, ltb, leb, get_or, take, Option, Some, None, Ok, Err}
 use Rattle.std.proofs.Math.Bool.{and-false, and-eq-true_iff}
 use Rattle.std.proofs.Common.{arith}
 use borrow.Author.Tests.{leb-true, lt-leb, ltb-true}
 use Rattle.std.proofs.Math.ListN.{length, length-take}
 use Rattle.refusal.specs.declared.Refusal.{Refusal}
-use Rattle.numeral.specs.declared.Numeral.{Numeral}
-use Rattle.numeral.specs.declared.Numeral.TheVariants as numeral
+use Rattle.refusal.specs.Refusal.{Outcome}
 use Rattle.numeral.specs.BigEndian.{big_endian_at}
 use Rattle.numeral.specs.Var.{var_at}
 use Rattle.numeral.specs.VarLaws.{var_at_read}
 use Rattle.position.specs.Position.{chunk_of, offset_of, code_of, type_of, check_of}
-use Rattle.item.specs.Item.{on_numeral}
 use Rattle.page.specs.declared.Place.{Place}
 use Rattle.page.specs.declared.Head.{Head}
-use Rattle.page.specs.declared.Head.TheVariants.{Body}
-use Rattle.page.specs.declared.Head.TheVariants as head
-use Rattle.page.specs.Judged.{start_of, footer_at, begins, length_fits, fields_at, head_at}
+use Rattle.page.specs.Judged.{readable, start_of, footer_at, begins, length_fits, fields_at, head_at}
 
 -- "nor less than 9 bytes before the footer"
 pub begins_room : (c : Place) (offset : ℕ) → begins c offset ≡ true → start_of c + offset + 9 ≤ footer_at c
@@ -31,29 +27,28 @@ unfolding begins
 begins_no_room c offset h = rw (lt-leb (start_of c + offset + 9) (footer_at c) h) (and-false (leb c.first offset))
 
 -- ## What is known of a head that is not refused
-abbrev Within : ℕ → Head → Type 0
-Within m (head.Refused r) = Unit {0}
-Within m (Body n at e) = (n < 2 ^ 31) × (at ≤ e) × (e ≤ m)
+abbrev Within : ℕ → Outcome Head → Type 0
+Within m (Err r) = Unit {0}
+Within m (Ok h) = (h.n < 2 ^ 31) × (h.at ≤ h.end) × (h.end ≤ m)
 
 module _ (m : ℕ) where
-  cond_within : (t : Bool) (h : Head) (r : Refusal) → (t ≡ true → Within m h) → Within m (cond t h (head.Refused r))
+  cond_within : (t : Bool) (h : Outcome Head) (r : Refusal) → (t ≡ true → Within m h) → Within m (cond t h (Err r))
   cond_within true h r w = w refl
   cond_within false h r w = tt
 
-  numeral_within : (x : Numeral) (r : Refusal) (go : ℕ → ℕ → Head) → ((v i : ℕ) → x ≡ numeral.Read v i → Within m (go v i))
-      → Within m (on_numeral x (head.Refused r) go)
-  numeral_within (numeral.Read v i) r go w = w v i refl
-  numeral_within numeral.Bad r go w = tt
+  readable_within : {A : Type 0} (x : Option A) (go : A → Outcome Head) → ((a : A) → x ≡ Some a → Within m (go a)) → Within m (readable x go)
+  readable_within (Some a) go w = w a refl
+  readable_within None go w = tt
 
   fields_within : (s : List ℕ) → length s ≤ m → (i type map : ℕ) → Within m (fields_at s i type map)
   unfolding fields_at
   fields_within s l i type map =
-      numeral_within (var_at (2 ^ 31) s i) _ _ (λ id j a.
-      cond_within (eqb id map) _ _ (λ t.
-      numeral_within (var_at (2 ^ 31) s j) _ _ (λ n k b.
-      cond_within (ltb k (length s)) _ _ (λ u.
-      cond_within (eqb (get_or s k 0) type) _ _ (λ v.
-      ((var_at_read (2 ^ 31) s j b).below, omega (arith, ltb-true k (length s) u), l))))))
+      readable_within (var_at (2 ^ 31) s i) _ (λ id a.
+      cond_within (eqb id.value map) _ _ (λ t.
+      readable_within (var_at (2 ^ 31) s id.next) _ (λ n b.
+      cond_within (ltb n.next (length s)) _ _ (λ u.
+      cond_within (eqb (get_or s n.next 0) type) _ _ (λ v.
+      ((var_at_read (2 ^ 31) s id.next b).below, omega (arith, ltb-true n.next (length s) u), l))))))
 
 module _ (image : List ℕ) (c : Place) (p map : ℕ) where
   head_within : Within (length image) (head_at image c p map)
@@ -67,5 +62,5 @@ module _ (image : List ℕ) (c : Place) (p map : ℕ) where
       cond_within m (eqb (big_endian_at 2 image (at + 4)) (check_of (chunk_of p) (offset_of p) n)) _ _ (λ v.
       fields_within m (take (at + n) image) (simp length-take (omega arith)) (at + 6) (type_of p) map)))
 
-  pub head_body : {n at e : ℕ} → head_at image c p map ≡ Body n at e → (n < 2 ^ 31) × (at ≤ e) × (e ≤ length image)
-  head_body h = rw h at head_within
+  pub head_body : {h : Head} → head_at image c p map ≡ Ok h → (h.n < 2 ^ 31) × (h.at ≤ h.end) × (h.end ≤ length image)
+  head_body e = rw e at head_within

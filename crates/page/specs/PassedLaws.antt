@@ -2,43 +2,40 @@
 --
 --   LeafPassed, InnerPassed  its parts follow one another, up to its end
 --   Passed image kind j      the same of what a page was judged to be
-use Rattle.std.specs.Prelude.{ℕ, zero, suc, ◌+◌, ◌^◌, ◌<◌, ◌≡◌, List, [], ◌∷◌, Bool, true, false, cond, eqb, length, take}
+use Rattle.std.specs.Prelude.{ℕ, zero, suc, ◌+◌, ◌^◌, ◌<◌, ◌≡◌, List, [], ◌∷◌, Bool, true, false, cond, eqb, length, take, Option, Some, None, Ok, Err}
 use Rattle.std.proofs.Math.Path.{refl}
 use Rattle.std.proofs.Common.{ap, eqb-true}
 use Rattle.refusal.specs.declared.Refusal.{Refusal}
-use Rattle.refusal.specs.Refusal.{bad_contents}
+use Rattle.refusal.specs.Refusal.{Outcome, bind, bad_contents}
 use Rattle.position.specs.Position.{type_of}
 use Rattle.key.specs.declared.Kind.{Kind}
 use Rattle.page.specs.declared.Place.{Place}
 use Rattle.item.specs.declared.Form.TheVariants.{Word, Bytes}
-use Rattle.item.specs.declared.Skip.{Skip}
-use Rattle.item.specs.declared.Skip.TheVariants as skip
 use Rattle.item.specs.declared.Counted.{Counted}
-use Rattle.item.specs.declared.Counted.TheVariants as sums
 use Rattle.item.specs.Item.{skipped, counted}
 use Rattle.page.specs.declared.Head.{Head}
-use Rattle.page.specs.declared.Head.TheVariants.{Body}
-use Rattle.page.specs.declared.Head.TheVariants as head
 use Rattle.page.specs.declared.Judged.{Judged}
-use Rattle.page.specs.declared.Judged.TheVariants.{Refused, Leaf, Inner}
-use Rattle.page.specs.Judged.{on_skip, on_counted, key_form, leaf_at, inner_at, body_at, head_at, on_head, judged_at}
+use Rattle.page.specs.declared.Judged.TheVariants as judged
+use Rattle.page.specs.declared.Leaf.{Leaf}
+use Rattle.page.specs.declared.Inner.{Inner}
+use Rattle.page.specs.Judged.{readable, key_form, leaf_at, inner_at, body_at, head_at, judged_at}
 use Rattle.page.specs.JudgedLaws.{head_body}
 
-pub record LeafPassed (s : List ℕ) (kind : Kind) (n keys values e : ℕ) : Type 0 where
-  pub few : n < 2 ^ 31
-  pub key_items : skipped s (key_form kind) n keys ≡ skip.Past values
-  pub value_items : skipped s Bytes n values ≡ skip.Past e
+pub record LeafPassed (s : List ℕ) (kind : Kind) (p : Leaf) : Type 0 where
+  pub few : p.n < 2 ^ 31
+  pub key_items : skipped s (key_form kind) p.n p.keys ≡ Some p.values
+  pub value_items : skipped s Bytes p.n p.values ≡ Some p.end
 
-pub record InnerPassed (s : List ℕ) (kind : Kind) (n positions counts keys e total : ℕ) : Type 0 where
-  pub few : n < 2 ^ 31
-  pub position_items : skipped s Word (n + 1) positions ≡ skip.Past counts
-  pub count_items : counted s (n + 1) counts ≡ sums.Sum total keys
-  pub key_items : skipped s (key_form kind) n keys ≡ skip.Past e
+pub record InnerPassed (s : List ℕ) (kind : Kind) (p : Inner) : Type 0 where
+  pub few : p.n < 2 ^ 31
+  pub position_items : skipped s Word (p.n + 1) p.positions ≡ Some p.counts
+  pub count_items : counted s (p.n + 1) p.counts ≡ Some (record { total = p.total; next = p.keys })
+  pub key_items : skipped s (key_form kind) p.n p.keys ≡ Some p.end
 
-abbrev pub Passed : List ℕ → Kind → Judged → Type 0
-Passed image kind (Refused r) = Unit {0}
-Passed image kind (Leaf n keys values e) = LeafPassed (take e image) kind n keys values e
-Passed image kind (Inner n positions counts keys e total) = InnerPassed (take e image) kind n positions counts keys e total
+abbrev pub Passed : List ℕ → Kind → Outcome Judged → Type 0
+Passed image kind (Err r) = Unit {0}
+Passed image kind (Ok (judged.Leaf p)) = LeafPassed (take p.end image) kind p
+Passed image kind (Ok (judged.Inner p)) = InnerPassed (take p.end image) kind p
 
 take_again : (m : ℕ) (s : List ℕ) → take (length (take m s)) s ≡ take m s
 take_again zero s = refl
@@ -47,18 +44,14 @@ take_again (suc m) (x ∷ s) = ap (x ∷◌) (take_again m s)
 
 module _ (image : List ℕ) (kind : Kind) where
   -- ## A page that is not refused has passed each test on the way
-  cond_passed : (t : Bool) (page : Judged) (r : Refusal) → (t ≡ true → Passed image kind page) → Passed image kind (cond t page (Refused r))
+  cond_passed : (t : Bool) (page : Outcome Judged) (r : Refusal) → (t ≡ true → Passed image kind page) → Passed image kind (cond t page (Err r))
   cond_passed true page r h = h refl
   cond_passed false page r h = tt
 
-  skip_passed : (x : Skip) (go : ℕ → Judged) → ((i : ℕ) → x ≡ skip.Past i → Passed image kind (go i)) → Passed image kind (on_skip x go)
-  skip_passed (skip.Past i) go h = h i refl
-  skip_passed skip.Stuck go h = tt
-
-  counted_passed : (x : Counted) (go : ℕ → ℕ → Judged) → ((total i : ℕ) → x ≡ sums.Sum total i → Passed image kind (go total i))
-      → Passed image kind (on_counted x go)
-  counted_passed (sums.Sum total i) go h = h total i refl
-  counted_passed sums.Stuck go h = tt
+  readable_passed : {A : Type 0} (x : Option A) (go : A → Outcome Judged) → ((a : A) → x ≡ Some a → Passed image kind (go a))
+      → Passed image kind (readable x go)
+  readable_passed (Some a) go h = h a refl
+  readable_passed None go h = tt
 
   -- ## A page that ends with s, a beginning of the image
   module _ (s : List ℕ) (cut : take (length s) image ≡ s) where
@@ -69,17 +62,17 @@ module _ (image : List ℕ) (kind : Kind) where
       leaf_passed : (keys : ℕ) → Passed image kind (leaf_at s (key_form kind) n keys)
       unfolding leaf_at
       leaf_passed keys =
-          skip_passed (skipped s (key_form kind) n keys) _ (λ values p.
-          skip_passed (skipped s Bytes n values) _ (λ e q.
+          readable_passed (skipped s (key_form kind) n keys) _ (λ values p.
+          readable_passed (skipped s Bytes n values) _ (λ e q.
           cond_passed (eqb e (length s)) _ bad_contents (λ t.
           rw (cut_end e t) (record { few = few; key_items = p; value_items = q }))))
 
       inner_passed : (positions : ℕ) → Passed image kind (inner_at s (key_form kind) n positions)
       unfolding inner_at
       inner_passed positions =
-          skip_passed (skipped s Word (n + 1) positions) _ (λ counts p.
-          counted_passed (counted s (n + 1) counts) _ (λ total keys c.
-          skip_passed (skipped s (key_form kind) n keys) _ (λ e q.
+          readable_passed (skipped s Word (n + 1) positions) _ (λ counts p.
+          readable_passed (counted s (n + 1) counts) _ (λ sum c.
+          readable_passed (skipped s (key_form kind) n sum.next) _ (λ e q.
           cond_passed (eqb e (length s)) _ bad_contents (λ t.
           rw (cut_end e t)
           (record { few = few; position_items = p; count_items = c; key_items = q })))))
@@ -95,7 +88,7 @@ module _ (image : List ℕ) (kind : Kind) where
   unfolding judged_at
   judged_passed c p map = go (head_at image c p map) refl
     where
-      go : (h : Head) → head_at image c p map ≡ h
-          → Passed image kind (on_head h (λ n i e. body_at (take e image) (type_of p) (key_form kind) n i))
-      go (head.Refused r) q = tt
-      go (Body n i e) q = body_passed (take e image) (take_again e image) n (head_body image c p map q).0 (type_of p) i
+      go : (o : Outcome Head) → head_at image c p map ≡ o
+          → Passed image kind (bind o (λ h. body_at (take h.end image) (type_of p) (key_form kind) h.n h.at))
+      go (Err r) q = tt
+      go (Ok h) q = body_passed (take h.end image) (take_again h.end image) h.n (head_body image c p map q).0 (type_of p) h.at

@@ -12,67 +12,63 @@
 ghost use Rattle.std.specs.Prelude.{◌≡◌, take};
 ghost use Rattle.page.specs.Judged.{begins, length_fits, key_form, whole, leaf_at, inner_at, body_at};
 ghost use Rattle.page.specs.Judged.{fields_at, head_at, judged_at};
-ghost use Rattle.refusal.specs.Refusal.{bad_contents};
 
-use item::{Counted, Form, Skip};
+use item::Form;
 use key::Kind;
-use numeral::Numeral;
 use position::Position;
 use refusal::Refusal;
 
 // Where a page's chunk stands: its first block, its length in blocks, and the byte of the chunk at
 // which its pages may begin.
-#[derive(Clone, Copy)]
+#[derive(Clone, Copy, Debug, PartialEq, Eq)]
 pub struct Place {
     pub block: u32,
     pub len: u32,
     pub first: u32,
 }
 
-// A page's head: how many keys it has, where its items begin and where the page ends; or its refusal.
-#[derive(Clone, Copy)]
-enum Head {
-    Refused(Refusal),
-    Body { n: u32, at: usize, end: usize },
+// A page's head: how many keys it has, where its items begin and where the page ends.
+#[derive(Clone, Copy, Debug, PartialEq, Eq)]
+struct Head {
+    n: u32,
+    at: usize,
+    end: usize,
 }
 
-// A page by the places of its parts, or its refusal.
-#[derive(Clone, Copy)]
+// A leaf by the places of its parts.
+#[derive(Clone, Copy, Debug, PartialEq, Eq)]
+pub struct Leaf {
+    pub n: u32,
+    pub keys: usize,
+    pub values: usize,
+    pub end: usize,
+}
+
+// An inner page by the places of its parts, with the sum of its recorded counts.
+#[derive(Clone, Copy, Debug, PartialEq, Eq)]
+pub struct Inner {
+    pub n: u32,
+    pub positions: usize,
+    pub counts: usize,
+    pub keys: usize,
+    pub end: usize,
+    pub total: u64,
+}
+
+#[derive(Clone, Copy, Debug, PartialEq, Eq)]
 pub enum Judged {
-    Refused(Refusal),
-    Leaf {
-        n: u32,
-        keys: usize,
-        values: usize,
-        end: usize,
-    },
-    Inner {
-        n: u32,
-        positions: usize,
-        counts: usize,
-        keys: usize,
-        end: usize,
-        total: u64,
-    },
+    Leaf(Leaf),
+    Inner(Inner),
 }
 
 // Map ids and key counts are below this: 2^31.
 const COUNT_OF_KEYS: u64 = 2147483648;
 
-fn bad_contents() -> Judged
-    ensures { result ≡ Judged.Refused bad_contents }
-{
-    Judged::Refused(Refusal::new(Refusal::CONTENTS))
-}
-
 // The image up to `end`.
 pub fn cut(image: &[u8], end: usize) -> &[u8]
     ensures { result.now ≡ take end image.now }
 {
-    if end < image.len() {
-        return &image[..end];
-    }
-    image
+    &image[..end.min(image.len())]
 }
 
 fn page_begins(chunk: Place, offset: u32) -> bool
@@ -96,10 +92,7 @@ fn length_fits(code: u32, n: u32, room: usize) -> bool
     if n < 9 {
         return false;
     }
-    if position::holds_length(code, n) {} else {
-        return false;
-    }
-    n as usize <= room
+    position::holds_length(code, n) && n as usize <= room
 }
 
 // How a kind's keys are written.
@@ -113,122 +106,96 @@ pub fn key_form(kind: Kind) -> Form
 }
 
 // The page, if nothing is left over after its end.
-fn whole(s: &[u8], end: usize, page: Judged) -> Judged
+fn whole(s: &[u8], end: usize, page: Judged) -> Result<Judged, Refusal>
     ensures { result ≡ whole s.now end page }
 {
     if end == s.len() {
-        return page;
+        Ok(page)
+    } else {
+        Err(Refusal::Contents)
     }
-    bad_contents()
 }
 
-fn leaf(s: &[u8], form: Form, n: u32, at: usize) -> Judged
+fn leaf_at(s: &[u8], form: Form, n: u32, at: usize) -> Result<Judged, Refusal>
     ensures { result ≡ leaf_at s.now form n at }
 {
-    let a = item::skip_items(s, form, n as u64, at);
-    let Skip::Past(values) = a else {
-        return bad_contents();
-    };
-    let b = item::skip_items(s, Form::Bytes, n as u64, values);
-    let Skip::Past(end) = b else {
-        return bad_contents();
-    };
-    let page = Judged::Leaf {
+    let values = item::skip_items(s, form, n as u64, at).ok_or(Refusal::Contents)?;
+    let end = item::skip_items(s, Form::Bytes, n as u64, values).ok_or(Refusal::Contents)?;
+    let page = Leaf {
         n,
         keys: at,
         values,
         end,
     };
-    whole(s, end, page)
+    whole(s, end, Judged::Leaf(page))
 }
 
-fn inner(s: &[u8], form: Form, n: u32, at: usize) -> Judged
+fn inner_at(s: &[u8], form: Form, n: u32, at: usize) -> Result<Judged, Refusal>
     ensures { result ≡ inner_at s.now form n at }
 {
-    let a = item::skip_items(s, Form::Word, n as u64 + 1, at);
-    let Skip::Past(counts) = a else {
-        return bad_contents();
-    };
-    let b = item::sum_counts(s, n as u64 + 1, counts);
-    let Counted::Sum { total, next: keys } = b else {
-        return bad_contents();
-    };
-    let d = item::skip_items(s, form, n as u64, keys);
-    let Skip::Past(end) = d else {
-        return bad_contents();
-    };
-    let page = Judged::Inner {
+    let counts = item::skip_items(s, Form::Word, n as u64 + 1, at).ok_or(Refusal::Contents)?;
+    let sum = item::sum_counts(s, n as u64 + 1, counts).ok_or(Refusal::Contents)?;
+    let end = item::skip_items(s, form, n as u64, sum.next).ok_or(Refusal::Contents)?;
+    let page = Inner {
         n,
         positions: at,
         counts,
-        keys,
+        keys: sum.next,
         end,
-        total,
+        total: sum.total,
     };
-    whole(s, end, page)
+    whole(s, end, Judged::Inner(page))
 }
 
 // What follows the type byte.
-fn body(s: &[u8], page_type: u32, kind: Kind, n: u32, at: usize) -> Judged
+fn body(s: &[u8], page_type: u32, kind: Kind, n: u32, at: usize) -> Result<Judged, Refusal>
     ensures { result ≡ body_at s.now page_type (key_form kind) n at }
 {
     if page_type == 0 {
-        leaf(s, key_form(kind), n, at)
+        leaf_at(s, key_form(kind), n, at)
     } else {
-        inner(s, key_form(kind), n, at)
+        inner_at(s, key_form(kind), n, at)
     }
-}
-
-fn bad_fields() -> Head
-    ensures { result ≡ Head.Refused bad_contents }
-{
-    Head::Refused(Refusal::new(Refusal::CONTENTS))
 }
 
 // The fields from the map id to the type byte; `s` is the image up to the page's end.
-fn fields(s: &[u8], at: usize, page_type: u32, map: u32) -> Head
+fn fields(s: &[u8], at: usize, page_type: u32, map: u32) -> Result<Head, Refusal>
     ensures { result ≡ fields_at s.now at page_type map }
 {
-    let a = numeral::read_var(s, at, COUNT_OF_KEYS);
-    let Numeral::Read { value: m, next: p } = a else {
-        return bad_fields();
-    };
-    if m != map as u64 {
-        return Head::Refused(Refusal::new(Refusal::MAP_OR_TYPE));
+    let id = numeral::read_var(s, at, COUNT_OF_KEYS).ok_or(Refusal::Contents)?;
+    if id.value != map as u64 {
+        return Err(Refusal::MapOrType);
     }
-    let b = numeral::read_var(s, p, COUNT_OF_KEYS);
-    let Numeral::Read { value: n, next: q } = b else {
-        return bad_fields();
-    };
-    if s.len() <= q {
-        return bad_fields();
+    let n = numeral::read_var(s, id.next, COUNT_OF_KEYS).ok_or(Refusal::Contents)?;
+    if s.len() <= n.next {
+        return Err(Refusal::Contents);
     }
-    if s[q] as u32 != page_type {
-        return Head::Refused(Refusal::new(Refusal::MAP_OR_TYPE));
+    if s[n.next] as u32 != page_type {
+        return Err(Refusal::MapOrType);
     }
-    Head::Body {
-        n: n as u32,
-        at: q + 1,
+    Ok(Head {
+        n: n.value as u32,
+        at: n.next + 1,
         end: s.len(),
-    }
+    })
 }
 
 // The head of the page at a position in its chunk, due for a map.
-fn head_at(image: &[u8], chunk: Place, position: Position, map: u32) -> Head
+fn head_at(image: &[u8], chunk: Place, position: Position, map: u32) -> Result<Head, Refusal>
     ensures { result ≡ head_at image.now chunk position.bits map }
 {
     let offset = position.offset();
-    if page_begins(chunk, offset) {} else {
-        return Head::Refused(Refusal::new(Refusal::PLACE));
+    if !page_begins(chunk, offset) {
+        return Err(Refusal::Place);
     }
     let at = chunk.block as usize * 4096 + offset as usize;
     let footer = (chunk.block as usize + chunk.len as usize) * 4096 - 128;
     let n = numeral::be32(image, at);
-    if length_fits(position.code(), n, footer - at) {} else {
-        return Head::Refused(Refusal::new(Refusal::PLACE));
+    if !length_fits(position.code(), n, footer - at) {
+        return Err(Refusal::Place);
     }
     if numeral::be16(image, at + 4) != position::check_value(position.chunk(), offset, n) {
-        return Head::Refused(Refusal::new(Refusal::CHECK_VALUE));
+        return Err(Refusal::CheckValue);
     }
     fields(
         cut(image, at + n as usize),
@@ -239,12 +206,21 @@ fn head_at(image: &[u8], chunk: Place, position: Position, map: u32) -> Head
 }
 
 // The page at a position in its chunk, due for a map of a kind.
-pub fn judge(image: &[u8], chunk: Place, position: Position, map: u32, kind: Kind) -> Judged
+pub fn judge(
+    image: &[u8],
+    chunk: Place,
+    position: Position,
+    map: u32,
+    kind: Kind,
+) -> Result<Judged, Refusal>
     ensures { result ≡ judged_at image.now chunk position.bits map kind }
 {
-    let h = head_at(image, chunk, position, map);
-    match h {
-        Head::Refused(r) => Judged::Refused(r),
-        Head::Body { n, at, end } => body(cut(image, end), position.page_type(), kind, n, at),
-    }
+    let head = head_at(image, chunk, position, map)?;
+    body(
+        cut(image, head.end),
+        position.page_type(),
+        kind,
+        head.n,
+        head.at,
+    )
 }

@@ -1,72 +1,79 @@
 use native.Mathlib.Omega.{arith}
-use mathlib.Core.Path.{sym, ap, ◌∙◌}
+use mathlib.Core.Path.{sym, ◌∙◌}
 use Prim.Native.Nat.{◌^◌}
 use borrow.Author.Tests.{eq-eqb, ne_eqb, lt-ltb, le-ltb}
 use Rattle.numeral.specs.VarLaws.{var_at_read}
-use Rattle.page.specs.declared.Head.TheVariants.{Refused}
+use Rattle.std.proofs.Common.{◌≡◌, Some}
 use Rattle.page.specs.Judged.{fields_at}
+use Rattle.refusal.proofs.Passing.{handed_up, ok_or_some}
 use Rattle.page.proofs.fields.Goals as goal
 
-pub returns-in_default : goal.returns-in_default
+pub returns-in_err-id : goal.returns-in_err-id
 unfolding fields_at
-returns-in_default c = rw (← c.read_var-a.ensures, c.in_default.is) c.bad_fields.ensures
+returns-in_err-id c = rw (← c.read_var.ensures, ← c.ok_or.ensures.value, c.in_err-id.was) (handed_up c.from_residual.ensures)
 
-pub returns-then-m-map : goal.returns-then-m-map
+pub returns-then-id-map : goal.returns-then-id-map
 unfolding fields_at
-returns-then-m-map c = rw (← c.read_var-a.ensures, c.in-Read.is, ne_eqb _ _ c.if-m-map.true) (ap Refused c.new.ensures)
+returns-then-id-map c = rw (← c.read_var.ensures, ← c.ok_or.ensures.value, c.in_ok-id.was, ne_eqb _ _ c.if-id-map.true)
 
-pub returns-in_default-b : goal.returns-in_default-b
+pub returns-in_err-n : goal.returns-in_err-n
 unfolding fields_at
-returns-in_default-b c =
+returns-in_err-n c =
     rw (
-      ← c.read_var-a.ensures,
-      c.in-Read.is,
-      eq-eqb _ _ c.if-m-map.false,
-      ← c.read_var-b.ensures,
-      c.in_default-b.is,
-    ) c.bad_fields-in_default-b.ensures
+      ← c.read_var.ensures,
+      ← c.ok_or.ensures.value,
+      c.in_ok-id.was,
+      eq-eqb _ _ c.if-id-map.false,
+      ← c.read_var-2.ensures,
+      ← c.ok_or-2.ensures.value,
+      c.in_err-n.was,
+    ) (handed_up c.from_residual-in_err-n.ensures)
 
-pub returns-then-s-q : goal.returns-then-s-q
+pub returns-then-s-n : goal.returns-then-s-n
 unfolding fields_at
-returns-then-s-q c =
+returns-then-s-n c =
     rw (
-      ← c.read_var-a.ensures,
-      c.in-Read.is,
-      eq-eqb _ _ c.if-m-map.false,
-      ← c.read_var-b.ensures,
-      c.in-Read-b.is,
-      le-ltb _ _ c.if-s-q.true,
-    ) c.bad_fields-then-s-q.ensures
+      ← c.read_var.ensures,
+      ← c.ok_or.ensures.value,
+      c.in_ok-id.was,
+      eq-eqb _ _ c.if-id-map.false,
+      ← c.read_var-2.ensures,
+      ← c.ok_or-2.ensures.value,
+      c.in_ok-n.was,
+      le-ltb _ _ c.if-s-n.true,
+    )
 
-pub overflow_cast-s : goal.overflow_cast-s
-overflow_cast-s c = omega (arith, c.type_inv.s c.in-Read-b.q)
-
-pub returns-then-s-q-2 : goal.returns-then-s-q-2
+pub returns-then-s-n-2 : goal.returns-then-s-n-2
 unfolding fields_at
-returns-then-s-q-2 c =
+returns-then-s-n-2 c =
     rw (
-      ← c.read_var-a.ensures,
-      c.in-Read.is,
-      eq-eqb _ _ c.if-m-map.false,
-      ← c.read_var-b.ensures,
-      c.in-Read-b.is,
-      lt-ltb _ _ c.if-s-q.false,
-      ne_eqb _ _ c.if-s-q-2.true,
-    ) (ap Refused c.new-then-s-q-2.ensures)
+      ← c.read_var.ensures,
+      ← c.ok_or.ensures.value,
+      c.in_ok-id.was,
+      eq-eqb _ _ c.if-id-map.false,
+      ← c.read_var-2.ensures,
+      ← c.ok_or-2.ensures.value,
+      c.in_ok-n.was,
+      lt-ltb _ _ c.if-s-n.false,
+      ne_eqb _ _ c.if-s-n-2.true,
+    )
 
 pub overflow_cast-result : goal.overflow_cast-result
 overflow_cast-result c =
-    omega (arith, (var_at_read (2 ^ 31) _ _ (sym c.read_var-b.ensures ∙ c.in-Read-b.is)).below)
+    let read : c.read_var-2.result ≡ Some c.in_ok-n.n = ok_or_some _ c.ok_or-2.ensures.value c.in_ok-n.was in
+    omega (arith, (var_at_read (2 ^ 31) _ _ (sym c.read_var-2.ensures ∙ read)).below)
 
 pub returns : goal.returns
 unfolding fields_at
 returns c =
     rw (
-      ← c.read_var-a.ensures,
-      c.in-Read.is,
-      eq-eqb _ _ c.if-m-map.false,
-      ← c.read_var-b.ensures,
-      c.in-Read-b.is,
-      lt-ltb _ _ c.if-s-q.false,
-      eq-eqb _ _ c.if-s-q-2.false,
+      ← c.read_var.ensures,
+      ← c.ok_or.ensures.value,
+      c.in_ok-id.was,
+      eq-eqb _ _ c.if-id-map.false,
+      ← c.read_var-2.ensures,
+      ← c.ok_or-2.ensures.value,
+      c.in_ok-n.was,
+      lt-ltb _ _ c.if-s-n.false,
+      eq-eqb _ _ c.if-s-n-2.false,
     )

@@ -1,16 +1,11 @@
+use Rattle.refusal.proofs.Passing.{handed_up}
 use Rattle.page.specs.Judged.{judged_at}
 use Rattle.page.proofs.judge.Goals as goal
 
-pub returns-in-Refused : goal.returns-in-Refused
+pub returns-in_err-head : goal.returns-in_err-head
 unfolding judged_at
-returns-in-Refused c = rw (← c.head_at-h.ensures, c.in-Refused.is)
+returns-in_err-head c = rw (← c.head_at.ensures, c.in_err-head.was) (handed_up c.from_residual.ensures)
 
-pub returns-in-Body : goal.returns-in-Body
+pub returns : goal.returns
 unfolding judged_at
-returns-in-Body c =
-    rw (
-      ← c.head_at-h.ensures,
-      c.in-Body.is,
-      ← c.cut.ensures,
-      ← c.page_type.ensures,
-    ) c.body.ensures
+returns c = rw (← c.head_at.ensures, c.in_ok-head.was, ← c.cut.ensures, ← c.page_type.ensures) c.body.ensures
