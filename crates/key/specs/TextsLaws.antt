@@ -1,10 +1,13 @@
 -- The order of texts by their parts, as a loop goes through them.
 use Prim.Native.Nat.{ℕ, zero, suc, ◌+◌, ◌*◌, ◌-◌, ◌≤◌, ◌<◌}
-use Rattle.std.specs.Prelude.{◌≡◌, Bool, true, false, cond, List, [], ◌∷◌, ◌++◌, ltb, length, get_or, take, drop}
+use Rattle.std.specs.Prelude.{◌≡◌, Bool, true, false, cond, List, [], ◌∷◌, ◌++◌, ltb, min, length, get_or, take, drop}
 use Rattle.std.proofs.Math.Path.{refl}
 use Rattle.std.proofs.Common.{sym, ◌∙◌, zero-add, add-one, arith, lt-ltb, le-ltb, ltb-true, ltb-false, take-append-drop, drop_of_length-le, drop-cons, take-add, take_all, length-take-le}
 use Rattle.std.specs.declared.cmp.Ordering.{Ordering}
 use Rattle.std.specs.declared.cmp.Ordering.TheVariants.{Less, Equal, Greater}
+use Rattle.std.specs.Ordering.{nat_cmp, ordering_then, is_ne}
+use Rattle.std.specs.Cmp.Lexicographic.{slice_cmp}
+use Rattle.std.proofs.lemmas.Bool.Decides.{nat_tests}
 use Rattle.order.specs.Order.{compare_nat, then}
 use Rattle.numeral.specs.BigEndian.{big_endian, big_endian_at}
 use Rattle.numeral.specs.BigEndianLaws.{big_endian_at_inside}
@@ -25,6 +28,32 @@ then_assoc : (o p q : Ordering) → then (then o p) q ≡ then o (then p q)
 then_assoc Less p q = refl
 then_assoc Equal p q = refl
 then_assoc Greater p q = refl
+
+-- ## std's orders are these
+pub std_then : (o p : Ordering) → ordering_then o p ≡ then o p
+std_then Less p = refl
+std_then Equal p = refl
+std_then Greater p = refl
+
+pub std_compare : (x y : ℕ) → nat_cmp x y ≡ compare_nat x y
+std_compare x y = grind (arith, nat_tests)
+
+pub std_texts : (a b : List ℕ) → slice_cmp nat_cmp a b ≡ texts_order a b
+std_texts [] [] = refl
+std_texts [] (y ∷ b) = refl
+std_texts (x ∷ a) [] = refl
+std_texts (x ∷ a) (y ∷ b) = rw (std_compare x y, std_texts a b) (std_then (compare_nat x y) (texts_order a b))
+
+-- an answer that is not Equal stands, whatever comes after
+pub ne_first : (o : Ordering) → is_ne o ≡ true → (p : Ordering) → then o p ≡ o
+ne_first Less e p = refl
+ne_first Equal e p = cc
+ne_first Greater e p = refl
+
+pub ne_equal : (o : Ordering) → is_ne o ≡ false → o ≡ Equal
+ne_equal Less e = cc
+ne_equal Equal e = refl
+ne_equal Greater e = cc
 
 -- ## Two parts, of which the first are equally long
 texts_append : (p q x y : List ℕ) → length p ≡ length q → texts_order (p ++ x) (q ++ y) ≡ then (texts_order p q) (texts_order x y)
@@ -99,6 +128,23 @@ module _ (a b : List ℕ) where
 
     pub texts_extension : i < length a → length b ≤ i → texts_order (drop i a) (drop i b) ≡ Greater
     texts_extension h k = rw (drop-cons a i 0 h, drop_of_length-le b k)
+
+-- ## As many bytes as both have decide, and then the lengths
+module _ (a b : List ℕ) (n : ℕ) (both : n ≡ min (length a) (length b)) where
+  after_both : texts_order (drop n a) (drop n b) ≡ compare_nat (length a) (length b)
+  after_both = go (ltb (length a) (length b)) (ltb (length b) (length a)) refl refl
+    where
+      go : (s t : Bool) → ltb (length a) (length b) ≡ s → ltb (length b) (length a) ≡ t
+          → texts_order (drop n a) (drop n b) ≡ cond s Less (cond t Greater Equal)
+      go true t p q = let l = ltb-true (length a) (length b) p in texts_beginning a b n (omega arith) (omega arith)
+      go false true p q = let l = ltb-true (length b) (length a) q in texts_extension a b n (omega arith) (omega arith)
+      go false false p q =
+          let l = ltb-false (length a) (length b) p in
+          let m = ltb-false (length b) (length a) q in
+          texts_end a b n (omega arith) (omega arith)
+
+  pub texts_both : texts_order a b ≡ then (texts_order (take n a) (take n b)) (compare_nat (length a) (length b))
+  texts_both = texts_split a b n (omega arith) (omega arith) ∙ rw after_both
 
 -- ## Bytes compare as the number that they are, high byte first
 -- one digit more

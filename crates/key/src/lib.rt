@@ -12,9 +12,9 @@ ghost use Rattle.key.specs.Key.{key_at, well_formed, key_of, compare_keys};
 ghost use Rattle.key.specs.Raised.{raised};
 
 use numeral::be64;
+pub use sized::{Sized, sized_at};
 use std::cmp::Ordering;
 use text::Spot;
-pub use sized::{Sized, sized_at};
 
 #[derive(Clone, Copy, Debug, PartialEq, Eq)]
 pub enum Kind {

@@ -1,8 +1,8 @@
 -- What the halving and the moving do, one law for each way that the code takes.
-use Prim.Native.Nat.{ℕ, zero, suc, ◌+◌, ◌*◌, ◌-◌, ◌/◌, ◌<◌, ◌≤◌}
+use Prim.Native.Nat.{ℕ, zero, suc, ◌+◌, ◌*◌, ◌-◌, ◌/◌, ◌^◌, ◌<◌, ◌≤◌}
 use Rattle.std.specs.Prelude.{◌≡◌, Bool, not, List, ltb, length, set}
 use Rattle.std.proofs.Math.Path.{refl}
-use Rattle.std.proofs.Common.{◌∙◌, true≢false, sub-one, arith, length-set}
+use Rattle.std.proofs.Common.{◌∙◌, true≢false, sub-one, pow-suc, arith, length-set}
 use Rattle.std.proofs.Math.Bool.{true, false, cond}
 use Rattle.std.proofs.Math.Dec.{eqb}
 use Rattle.std.proofs.Math.ListN.{get_or}
@@ -67,6 +67,26 @@ module _ (ws : List ℕ) (c : ℕ) where
         go : (n : ℕ) → 0 < n → sought_from n low high ws c ≡ sought_from (n - 1) low (low + (high - low) / 2) ws c
         go zero p = absurd (omega arith)
         go (suc n) p = rw (lt-ltb low high h, e, sub-one)
+
+  -- of as many places as n halvings do for, there are n - 1 for the half of them
+  module _ (n low high : ℕ) (h : low < high) (few : high - low < 2 ^ n) where
+    pub halved_above : below_in (get_or ws (2 * (low + (high - low) / 2)) 0) c ≡ true →
+        (m : ℕ) × (high - (low + (high - low) / 2 + 1) < 2 ^ m) × (sought_from n low high ws c ≡ sought_from m (low + (high - low) / 2 + 1) high ws c)
+    halved_above e = go n few
+      where
+        go : (n : ℕ) → high - low < 2 ^ n →
+            (m : ℕ) × (high - (low + (high - low) / 2 + 1) < 2 ^ m) × (sought_from n low high ws c ≡ sought_from m (low + (high - low) / 2 + 1) high ws c)
+        go zero p = absurd (omega arith)
+        go (suc n) p = (n, omega (arith, pow-suc 2 n), rw sub-one at (sought_above (suc n) low high (omega arith) h e))
+
+    pub halved_below : below_in (get_or ws (2 * (low + (high - low) / 2)) 0) c ≡ false →
+        (m : ℕ) × (low + (high - low) / 2 - low < 2 ^ m) × (sought_from n low high ws c ≡ sought_from m low (low + (high - low) / 2) ws c)
+    halved_below e = go n few
+      where
+        go : (n : ℕ) → high - low < 2 ^ n →
+            (m : ℕ) × (low + (high - low) / 2 - low < 2 ^ m) × (sought_from n low high ws c ≡ sought_from m low (low + (high - low) / 2) ws c)
+        go zero p = absurd (omega arith)
+        go (suc n) p = (n, omega (arith, pow-suc 2 n), rw sub-one at (sought_below (suc n) low high (omega arith) h e))
 
   -- ## What a place says of a chunk
   module _ (i : ℕ) where

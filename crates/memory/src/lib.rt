@@ -2,17 +2,17 @@
 // own. The places taken come first, in the order of their chunks' ids, so that a chunk is found by
 // halving; a free place is 0. What is recalled was remembered, and no chunk is forgotten; where there is
 // no room, none is added.
+// The words are packed and sorted by hand, since they are fixed memory on the stack, of which a call uses
+// less than 96 KiB (include/mvstore.h): two for a chunk keep 4,096 chunks in 64 KiB.
 #![tactic(auto)]
 
 ghost use Rattle.std.specs.Prelude.{◌≡◌};
 ghost use Rattle.memory.specs.Words.{place_in, full_in, below_in, sought_in, recalled_at, recalled_in, inserted_at, remembered_in};
 
 use page::Place;
+use std::mem;
 
-// As many halvings as any array needs.
-const HALVINGS: u32 = 64;
-
-#[derive(Clone, Copy)]
+#[derive(Clone, Copy, Debug, PartialEq, Eq)]
 pub enum Recalled {
     At { place: Place, need: u32 },
     Free(usize),
@@ -24,9 +24,9 @@ fn place_in(w: u64, v: u64) -> Place
     ensures { result ≡ place_in w v }
 {
     Place {
-        block: (w / 16 % 268435456) as u32,
-        len: (v / 4294967296) as u32,
-        first: (v % 4294967296) as u32,
+        block: (w / 16 % 0x1000_0000) as u32,
+        len: (v / 0x1_0000_0000) as u32,
+        first: (v % 0x1_0000_0000) as u32,
     }
 }
 
@@ -35,20 +35,14 @@ pub fn is_full(memory: &[u64]) -> bool
     ensures { result ≡ full_in memory.now }
 {
     let n = memory.len() / 2;
-    if n == 0 {
-        return true;
-    }
-    memory[2 * n - 2] != 0
+    n == 0 || memory[2 * n - 2] != 0
 }
 
 // Whether the word is of a chunk whose id is below `c`.
 fn is_below(w: u64, c: u32) -> bool
     ensures { result ≡ below_in w c }
 {
-    if w == 0 {
-        return false;
-    }
-    w / 4294967296 < c as u64
+    w != 0 && w / 0x1_0000_0000 < c as u64
 }
 
 // A place that is free or holds a chunk whose id is not below `c`, by halving.
@@ -57,18 +51,13 @@ fn seek(memory: &[u64], c: u32) -> usize
 {
     let mut low = 0;
     let mut high = memory.len() / 2;
-    let mut left = HALVINGS;
-    while 0 < left {
-        if high <= low {
-            return low;
-        }
+    while low < high {
         let middle = low + (high - low) / 2;
         if is_below(memory[2 * middle], c) {
             low = middle + 1;
         } else {
             high = middle;
         }
-        left -= 1;
     }
     low
 }
@@ -81,13 +70,11 @@ fn recall_at(memory: &[u64], i: usize, c: u32) -> Recalled
         return Recalled::Full;
     }
     let w = memory[2 * i];
-    if w != 0 {
-        if w / 4294967296 == c as u64 {
-            return Recalled::At {
-                place: place_in(w, memory[2 * i + 1]),
-                need: (w % 16) as u32,
-            };
-        }
+    if w != 0 && w / 0x1_0000_0000 == c as u64 {
+        return Recalled::At {
+            place: place_in(w, memory[2 * i + 1]),
+            need: (w % 16) as u32,
+        };
     }
     if is_full(memory) {
         return Recalled::Full;
@@ -104,24 +91,15 @@ pub fn recall(memory: &[u64], c: u32) -> Recalled
 
 // Puts two words at the place numbered `i`; what was there and after it moves one place on, up to the
 // first free place.
-fn insert(memory: &mut [u64], i: usize, w: u64, v: u64)
+fn insert(memory: &mut [u64], i: usize, mut w: u64, mut v: u64)
     ensures { memory.new ≡ inserted_at memory.old i w v }
 {
-    let n = memory.len() / 2;
-    let mut j = i;
-    let mut first = w;
-    let mut second = v;
-    while j < n {
-        let x = memory[2 * j];
-        let y = memory[2 * j + 1];
-        memory[2 * j] = first;
-        memory[2 * j + 1] = second;
-        if x == 0 {
+    for j in i..memory.len() / 2 {
+        mem::swap(&mut memory[2 * j], &mut w);
+        mem::swap(&mut memory[2 * j + 1], &mut v);
+        if w == 0 {
             return;
         }
-        first = x;
-        second = y;
-        j += 1;
     }
 }
 
@@ -129,18 +107,13 @@ fn insert(memory: &mut [u64], i: usize, w: u64, v: u64)
 pub fn remember(memory: &mut [u64], c: u32, place: Place, need: u32)
     ensures { memory.new ≡ remembered_in memory.old c place need }
 {
-    let r = recall(memory, c);
-    match r {
-        Recalled::At { place: _, need: _ } => {}
-        Recalled::Free(i) => {
-            let at = place.block as u64 % 268435456 * 16 + need as u64 % 16;
-            insert(
-                memory,
-                i,
-                c as u64 * 4294967296 + at,
-                place.len as u64 * 4294967296 + place.first as u64,
-            );
-        }
-        Recalled::Full => {}
+    if let Recalled::Free(i) = recall(memory, c) {
+        let at = place.block as u64 % 0x1000_0000 * 16 + need as u64 % 16;
+        insert(
+            memory,
+            i,
+            c as u64 * 0x1_0000_0000 + at,
+            place.len as u64 * 0x1_0000_0000 + place.first as u64,
+        );
     }
 }

@@ -1,15 +1,20 @@
--- Laws of scripts, as the loops over words and digits go.
+-- Laws of scripts: of words and digits, one after another, and of what std makes of them.
 use Prim.Native.Nat.{ℕ, zero, suc, ◌+◌, ◌*◌, ◌-◌, ◌/◌, ◌%◌, ◌^◌, ◌<◌, ◌≤◌}
-use Rattle.std.specs.Prelude.{◌≡◌, refl, List, [], ◌∷◌, ◌++◌, length, get_or, take, drop, set}
+use Rattle.std.specs.Prelude.{◌≡◌, refl, List, [], ◌∷◌, ◌++◌, eqb, min, length, get_or, take, drop, set}
+use Rattle.std.specs.List.{slice_split, onto_first, fold}
 use Rattle.std.proofs.Common.{sym, ◌∙◌, ap, ⊎_elim, zero-add, eq-or-lt_of_le, add-mul, mul_right_comm, mul-le-mul, div-add-mod', add-one, drop_of_length-le, drop-cons, length-take-le}
 use native.Mathlib.Omega.{arith}
 use Rattle.std.proofs.Math.ListN.{length-drop}
 use Rattle.std.proofs.Math.Seq.{drop-drop, take-length, paste-suc}
-use Rattle.text.specs.Text.{span, is_not, split}
+use Rattle.text.specs.Text.{span, is_not, to_first, split}
 use Rattle.text.specs.Laws.{span_le, split_last, split_more}
 use Rattle.script.specs.Script.{up_to, word_of, number_from, with_digit, byte_of, bytes_of}
 
 -- ## Lines and words
+-- past the end nothing is left, as at the end
+pub drop_within : (s : List ℕ) (at : ℕ) → drop (min at (length s)) s ≡ drop at s
+drop_within s at = grind (arith, drop_of_length-le)
+
 pub up_to_length : (b : ℕ) (s : List ℕ) → length (up_to b s) ≡ span (is_not b) s
 unfolding up_to
 up_to_length b s = length-take-le (span (is_not b) s) s (span_le (is_not b) s)
@@ -44,7 +49,22 @@ module _ (line : List ℕ) (at end : ℕ) (found : end ≡ at + span (is_not 32)
   word_none zero p h = absurd (omega arith)
   word_none (suc k) p h = rw (split_last 32 (drop at line) (omega (arith, length-drop at line, span_le (is_not 32) (drop at line))))
 
+-- std's parts of a list are these
+first_part : (x : ℕ) (ps : List (List ℕ)) → onto_first x ps ≡ to_first x ps
+first_part x [] = refl
+first_part x (p ∷ ps) = refl
+
+pub std_split : (b : ℕ) (s : List ℕ) → slice_split (λ x. eqb x b) s ≡ split b s
+unfolding split
+std_split b [] = refl
+std_split b (x ∷ s) = rw (std_split b s, first_part x (split b s))
+
 -- ## Numbers
+pub fold_digits : (base value : ℕ) (s : List ℕ) → fold (with_digit base) value s ≡ number_from base value s
+unfolding number_from
+fold_digits base value [] = refl
+fold_digits base value (b ∷ s) = fold_digits base (with_digit base value b) s
+
 module _ (base value : ℕ) (s : List ℕ) (i : ℕ) where
   pub number_on : i < length s → number_from base value (drop i s) ≡ number_from base (with_digit base value (get_or s i 0)) (drop (i + 1) s)
   unfolding number_from

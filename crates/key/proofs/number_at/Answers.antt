@@ -1,8 +1,7 @@
 use lib.ListN.{length}
 use native.Mathlib.Omega.{arith}
 use borrow.Author.Tests.{le-leb, lt-leb}
-use Prim.Native.Nat.{◌+◌, ◌<◌, ◌≤◌}
-use Rattle.std.proofs.Common.{◌≡◌}
+use Prim.Native.Nat.{◌+◌}
 use Rattle.key.specs.Key.{key_at}
 use Rattle.key.proofs.number_at.Goals as goal
 

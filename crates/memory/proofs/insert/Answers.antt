@@ -1,44 +1,35 @@
 use Prim.Native.Nat.{◌+◌, ◌*◌, ◌-◌}
-use mathlib.Core.Path.{◌≡◌, refl, sym, ◌∙◌}
+use mathlib.Core.Path.{◌≡◌, sym, ◌∙◌}
 use native.Mathlib.Omega.{arith}
-use lib.ListN.{length-set}
+use lib.ListN.{get_or}
+use Rattle.std.proofs.Common.{get_or-set_other}
 use Rattle.memory.specs.Words.{places}
-use Rattle.memory.specs.WayLaws.{inserted_none, inserted_last, inserted_on, pair_length}
+use Rattle.memory.specs.WayLaws.{inserted_none, inserted_last, inserted_on}
 use Rattle.memory.proofs.insert.Goals as goal
 
-pub loop-j-init : goal.loop-j-init
-loop-j-init c = (refl, refl)
-
-pub bounds-memory-j-in-loop-j-3 : goal.bounds-memory-j-in-loop-j-3
-bounds-memory-j-in-loop-j-3 c =
-    let l = c.loop-j in
-    omega (arith, length-set l.memory (2 * l.j) l.first)
-
-pub shape_of-memory-then-x-eq0 : goal.shape_of-memory-then-x-eq0
-shape_of-memory-then-x-eq0 c =
-    let l = c.loop-j in
-    pair_length l.memory l.j l.first l.second ∙ l.invariant.0
-
-pub returns-then-x-eq0 : goal.returns-then-x-eq0
-returns-then-x-eq0 c =
+pub returns-then-w-eq0 : goal.returns-then-w-eq0
+returns-then-w-eq0 c =
     let n = places c.args.memory.now in
     let l = c.loop-j in
-    sym (inserted_last (n - l.j) l.j l.memory l.first l.second (omega arith) c.if-x-eq0.true) ∙ l.invariant.1
+    let first = c.swap.ensures in
+    let second = c.swap-in-loop-j.ensures in
+    let last = inserted_last (n - l.j) l.j l.memory l.w l.v (omega arith) (sym first.y_after ∙ c.if-w-eq0.true) in
+    rw (first.x_after, second.x_after) (sym last ∙ l.invariant)
 
 pub loop-j-preserved : goal.loop-j-preserved
 loop-j-preserved c =
     let n = places c.args.memory.now in
     let l = c.loop-j in
-    let e : n - l.j - 1 ≡ n - (l.j + 1) = omega arith in (
-      pair_length l.memory l.j l.first l.second ∙ l.invariant.0,
-      rw (← e) (sym (inserted_on (n - l.j) l.j l.memory l.first l.second (omega arith) c.if-x-eq0.false) ∙ l.invariant.1),
-    )
-
-pub shape_of-memory : goal.shape_of-memory
-shape_of-memory c = c.loop-j.invariant.0
+    let first = c.swap.ensures in
+    let second = c.swap-in-loop-j.ensures in
+    let e : n - l.j - 1 ≡ n - (l.j + 1) = omega arith in
+    let other = get_or-set_other l.memory (2 * l.j) (2 * l.j + 1) c.swap.new.x 0 (λ x. omega arith) in
+    let taken = λ (x : get_or l.memory (2 * l.j) 0 ≡ 0). c.if-w-eq0.false (first.y_after ∙ x) in
+    let on = inserted_on (n - l.j) l.j l.memory l.w l.v (omega arith) taken in
+    rw (second.y_after, other, first.y_after, first.x_after, second.x_after) (rw (← e) (sym on ∙ l.invariant))
 
 pub returns : goal.returns
 returns c =
     let n = places c.args.memory.now in
     let l = c.loop-j in
-    sym (inserted_none (n - l.j) l.j l.memory l.first l.second (omega arith)) ∙ l.invariant.1
+    sym (inserted_none (n - l.j) l.j l.memory l.w l.v (omega arith)) ∙ l.invariant

@@ -1,40 +1,30 @@
 use mathlib.Core.Path.{refl, sym, ◌∙◌}
 use native.Mathlib.Omega.{arith}
-use Rattle.memory.specs.WayLaws.{sought_none, sought_met, sought_above, sought_below}
+use Rattle.memory.specs.WayLaws.{sought_met, halved_above, halved_below}
 use Rattle.memory.proofs.seek.Goals as goal
-use Rattle.memory.proofs.seek.Goals.{then-is_below, else-is_below}
 
-pub loop-left-init : goal.loop-left-init
-loop-left-init c = (omega arith, refl)
+pub loop-low-init : goal.loop-low-init
+loop-low-init c = (omega arith, (64, omega arith, refl))
 
-pub returns-then-high-low : goal.returns-then-high-low
-returns-then-high-low c =
+pub loop-low-preserved-then-is_below : goal.loop-low-preserved-then-is_below
+loop-low-preserved-then-is_below c =
     let a = c.args in
-    let l = c.loop-left in
-    sym (sought_met a.memory.now a.c l.left l.low l.high c.if-high-low.true) ∙ l.invariant.1
+    let l = c.loop-low in
+    let (n, few, same) = l.invariant.1 in
+    let (m, fewer, on) = halved_above a.memory.now a.c n l.low l.high (omega arith) few (sym c.is_below.ensures ∙ c.if-is_below.true) in
+    (omega arith, (m, fewer, sym on ∙ same))
 
-pub loop-left-preserved : goal.loop-left-preserved
-loop-left-preserved c =
+pub loop-low-preserved : goal.loop-low-preserved
+loop-low-preserved c =
     let a = c.args in
-    let l = c.loop-left in
-    let below = c.is_below.ensures in
-    elim c.if-is_below.branch [
-      | then-is_below w ↦ (
-        omega arith,
-        rw (w.low-is, w.high-is)
-            (sym (sought_above a.memory.now a.c l.left l.low l.high (omega arith) (omega arith) (sym below ∙ w.if-is_below.true)) ∙
-            l.invariant.1),
-      )
-      | else-is_below w ↦ (
-        omega arith,
-        rw (w.low-is, w.high-is)
-            (sym (sought_below a.memory.now a.c l.left l.low l.high (omega arith) (omega arith) (sym below ∙ w.if-is_below.false)) ∙
-            l.invariant.1),
-      )
-    ]
+    let l = c.loop-low in
+    let (n, few, same) = l.invariant.1 in
+    let (m, fewer, on) = halved_below a.memory.now a.c n l.low l.high (omega arith) few (sym c.is_below.ensures ∙ c.if-is_below.false) in
+    (omega arith, (m, fewer, sym on ∙ same))
 
 pub returns : goal.returns
 returns c =
     let a = c.args in
-    let l = c.loop-left in
-    sym (sought_none a.memory.now a.c l.left l.low l.high (omega arith)) ∙ l.invariant.1
+    let l = c.loop-low in
+    let (n, few, same) = l.invariant.1 in
+    sym (sought_met a.memory.now a.c n l.low l.high (omega arith)) ∙ same

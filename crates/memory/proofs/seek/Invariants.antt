@@ -1,11 +1,12 @@
-use Prim.Native.Nat.{◌≤◌}
+use Prim.Native.Nat.{ℕ, ◌-◌, ◌≤◌, ◌<◌, ◌^◌}
 use mathlib.Core.Path.{◌≡◌}
 use Rattle.memory.specs.Words.{places, sought_from, sought_in}
 use Rattle.memory.proofs.seek.Given as goal
 
-abbrev pub invariant-loop-left : goal.invariant-loop-left
-invariant-loop-left l =
-    (l.high ≤ places l.memory) × (sought_from l.left l.low l.high l.memory l.c ≡ sought_in l.memory l.c)
+-- as many halvings as are left find it
+abbrev pub invariant-loop-low : goal.invariant-loop-low
+invariant-loop-low l =
+    (l.high ≤ places l.memory) × ((n : ℕ) × (l.high - l.low < 2 ^ n) × (sought_from n l.low l.high l.memory l.c ≡ sought_in l.memory l.c))
 
-abbrev pub decreases-loop-left : goal.decreases-loop-left
-decreases-loop-left l = l.left
+abbrev pub decreases-loop-low : goal.decreases-loop-low
+decreases-loop-low l = l.high - l.low

@@ -3,11 +3,6 @@ use lib.ListN.{drop}
 use Rattle.script.specs.Laws.{up_to_length}
 use Rattle.script.proofs.next_line.Goals as goal
 
-pub returns-then-end-input : goal.returns-then-end-input
-returns-then-end-input c =
-    let a = c.args in
-    omega (arith, c.find_byte-end.ensures, up_to_length 10 (drop a.at a.input.now))
-
 pub returns : goal.returns
 returns c =
     let a = c.args in

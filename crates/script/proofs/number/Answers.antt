@@ -1,18 +1,15 @@
-use mathlib.Core.Path.{sym, ◌∙◌}
-use native.Mathlib.Omega.{arith}
-use Rattle.script.specs.Laws.{number_on, number_end}
+use mathlib.Core.Path.{◌∙◌}
+use Rattle.std.proofs.Common.{rules, tests}
+use Rattle.std.proofs.lemmas.Iterator.{YieldsList-from_slice}
+use Rattle.std.proofs.lemmas.Iterator.Consumers.{fold_from_yields_List}
+use Rattle.script.specs.Script.{with_digit}
+use Rattle.script.specs.Laws.{fold_digits}
 use Rattle.script.proofs.number.Goals as goal
-
-pub loop-i-preserved : goal.loop-i-preserved
-loop-i-preserved c =
-    let a = c.args in
-    let l = c.loop-i in
-    let w = c.word-w.result.now in
-    rw c.with_digit-value.ensures (sym (number_on a.base l.value w l.i (omega arith)) ∙ l.invariant)
 
 pub returns : goal.returns
 returns c =
-    let a = c.args in
-    let l = c.loop-i in
-    let w = c.word-w in
-    sym (number_end a.base l.value w.result.now l.i (omega arith)) ∙ l.invariant ∙ rw w.ensures
+    let base = c.args.base in
+    let w = c.word in
+    let road = YieldsList-from_slice w.result.now c.iter.ensures.rest in
+    fold_from_yields_List _ (with_digit base) 0 c.fold.result c.fold.ensures.ran road (λ a x b q k. search (rules, tests))
+    ∙ fold_digits base 0 w.result.now ∙ rw w.ensures

@@ -1,26 +1,30 @@
-use mathlib.Core.Path.{◌≡◌, sym, ◌∙◌}
-use native.Mathlib.Omega.{arith}
-use lib.ListN.{drop}
-use lib.Seq.{drop-length, take-nil}
-use Rattle.script.specs.Laws.{word_first, word_on, word_none}
+use mathlib.Core.Path.{◌≡◌, refl, ◌∙◌}
+use lib.Dec.{eqb}
+use Rattle.std.specs.Prelude.{ℕ, zero, suc, List, [], ◌∷◌, Option, Some, None, get_or}
+use Rattle.std.specs.List.{slice_get}
+use Rattle.std.specs.Option.{option_map, unwrap_or}
+use Rattle.std.proofs.Common.{ap, rules, tests, Bor}
+use Rattle.std.proofs.lemmas.Iterator.Consumers.{nth_from_yields_List}
+use Rattle.std.proofs.lemmas.Iterator.Splits.{YieldsList-from_slice_split}
+use Rattle.script.specs.Laws.{std_split}
+use Rattle.script.specs.Script.{word_of}
 use Rattle.script.proofs.word.Goals as goal
 
-pub returns-then-len-end : goal.returns-then-len-end
-returns-then-len-end c =
-    let a = c.args in
-    let l = c.loop-left in
-    let e = word_none a.line.now l.from _ c.find_byte-end.ensures l.left (omega arith) (omega arith) in
-    rw (drop-length a.line.now, take-nil) (sym e ∙ l.invariant)
-
-pub loop-left-preserved : goal.loop-left-preserved
-loop-left-preserved c =
-    let a = c.args in
-    let l = c.loop-left in
-    sym (word_on a.line.now l.from _ c.find_byte-end.ensures l.left (omega arith) (omega arith)) ∙ l.invariant
+-- the part that was found, or another where there are fewer
+part_or : (o : Option (Bor (List ℕ))) (d : Bor (List ℕ)) (parts : List (List ℕ)) (k : ℕ) → option_map (λ x. x.now) o ≡ slice_get parts k
+    → (unwrap_or o d).now ≡ get_or parts k d.now
+part_or None d [] k e = refl
+part_or (Some x) d [] k e = cc
+part_or None d (p ∷ ps) zero e = cc
+part_or (Some x) d (p ∷ ps) zero e = cc
+part_or o d (p ∷ ps) (suc k) e = part_or o d ps k e
 
 pub returns : goal.returns
+unfolding word_of
 returns c =
     let a = c.args in
-    let l = c.loop-left in
-    let none : l.left ≡ 0 = omega arith in
-    c.part.ensures ∙ sym (word_first (drop l.from a.line.now)) ∙ rw none at l.invariant
+    let parts = c.split.ensures in
+    let nth = nth_from_yields_List c.nth.result c.nth.new.self a.k c.nth.ensures.ran
+    (YieldsList-from_slice_split _ (λ b. eqb b 32) a.line.now parts.rest parts.done parts.closure (λ x b q k. search (rules, tests))) in
+    let found = rw (std_split 32 a.line.now) at nth in
+    ap (λ r. r.now) c.unwrap_or.ensures ∙ part_or c.nth.result _ _ a.k found

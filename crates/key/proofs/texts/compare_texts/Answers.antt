@@ -1,38 +1,15 @@
-use mathlib.Core.Path.{refl, sym, ◌∙◌}
-use native.Mathlib.Omega.{arith}
-use Rattle.std.specs.declared.cmp.Ordering.TheVariants.{Less, Greater}
-use Rattle.key.specs.TextsLaws.{texts_differ, texts_rest, texts_end, texts_beginning, texts_extension}
+use mathlib.Core.Path.{sym, ◌∙◌}
+use lib.ListN.{length}
+use Rattle.key.specs.TextsLaws.{std_then, std_compare, std_texts, texts_both}
 use Rattle.key.proofs.texts.compare_texts.Goals as goal
 
-pub returns-in-Less : goal.returns-in-Less
-returns-in-Less c =
-    let a = c.args in
-    let e = sym c.compare_first-o.ensures ∙ c.in-Less.is in
-    sym (texts_differ a.a.now a.b.now c.shorter-n.result (omega arith) (omega arith) Less (λ p. refl) e)
-
-pub returns-in-Greater : goal.returns-in-Greater
-returns-in-Greater c =
-    let a = c.args in
-    let e = sym c.compare_first-o.ensures ∙ c.in-Greater.is in
-    sym (texts_differ a.a.now a.b.now c.shorter-n.result (omega arith) (omega arith) Greater (λ p. refl) e)
-
-pub returns-then-a-b : goal.returns-then-a-b
-returns-then-a-b c =
-    let a = c.args in
-    let n = c.shorter-n.result in
-    let e = sym c.compare_first-o.ensures ∙ c.in-Equal.is in
-    sym (texts_rest a.a.now a.b.now n (omega arith) (omega arith) e ∙ texts_beginning a.a.now a.b.now n (omega arith) (omega arith))
-
-pub returns-then-b-a : goal.returns-then-b-a
-returns-then-b-a c =
-    let a = c.args in
-    let n = c.shorter-n.result in
-    let e = sym c.compare_first-o.ensures ∙ c.in-Equal.is in
-    sym (texts_rest a.a.now a.b.now n (omega arith) (omega arith) e ∙ texts_extension a.a.now a.b.now n (omega arith) (omega arith))
+pub returns-then-n-lt8 : goal.returns-then-n-lt8
+returns-then-n-lt8 c = c.cmp.ensures ∙ std_texts c.args.a.now c.args.b.now
 
 pub returns : goal.returns
 returns c =
     let a = c.args in
-    let n = c.shorter-n.result in
-    let e = sym c.compare_first-o.ensures ∙ c.in-Equal.is in
-    sym (texts_rest a.a.now a.b.now n (omega arith) (omega arith) e ∙ texts_end a.a.now a.b.now n (omega arith) (omega arith))
+    let words = c.compare_words in
+    let lengths = c.cmp-2.ensures ∙ std_compare (length a.a.now) (length a.b.now) in
+    c.then.ensures ∙ std_then words.result c.cmp-2.result
+    ∙ sym (rw (← words.ensures, ← lengths) at (texts_both a.a.now a.b.now c.min-n.result c.min-n.ensures))
