@@ -11,12 +11,8 @@ use Rattle.std.specs.Prelude.{ℕ, zero, suc, ◌+◌, max, Bool, true, false, �
 use Rattle.refusal.specs.Refusal.{Outcome, bind, too_deep, unsound}
 use Rattle.std.specs.declared.cmp.Ordering.{Ordering}
 use Rattle.order.specs.Order.{below}
+pub use Rattle.tree.specs.declared.Report.{Report}
 use Rattle.tree.specs.Page.{branch, Children, last, more, Page, leaf, inner, separators}
-
-pub record Report : Type 0 where
-  pub entries : ℕ
-  pub pages : ℕ
-  pub depth : ℕ
 
 abbrev pub nothing : Report
 nothing = record { entries = 0; pages = 0; depth = 0 }
