@@ -1,9 +1,10 @@
 -- Laws of the sums, which proofs cite in place of the definitions.
 use Prim.Native.Nat.{ℕ, suc, ◌+◌, ◌*◌, ◌≤◌, ◌<◌}
-use Rattle.std.specs.Prelude.{◌≡◌, List, get_or, drop}
+use Rattle.std.specs.Prelude.{◌≡◌, ◌%◌, refl, List, [], ◌∷◌, ◌++◌, get_or, drop, min}
+use Rattle.std.proofs.Common.{sym, append-nil}
 use Rattle.std.proofs.Math.Numerals.{add-one, add-two}
 use native.Mathlib.Omega.{arith}
-use Rattle.std.proofs.Math.ListN.{length, drop_of_length-le}
+use Rattle.std.proofs.Math.ListN.{length, drop_of_length-le, length-append}
 use Rattle.std.proofs.Math.Seq.{drop-cons}
 use Rattle.fletcher.specs.declared.Edition.{Edition}
 use Rattle.fletcher.specs.declared.Sums.{Sums}
@@ -29,3 +30,21 @@ module _ (e : Edition) (t : Sums) (s : List ℕ) (i : ℕ) where
   pub sums_end : length s ≤ i → sums e t (drop i s) ≡ t
   unfolding sums
   sums_end h = rw (drop_of_length-le s h)
+
+-- blocks of even length one after another
+sums_split : (e : Edition) (t : Sums) (a b : List ℕ) → length a % 2 ≡ 0 → sums e t (a ++ b) ≡ sums e (sums e t a) b
+unfolding sums
+sums_split e t [] b h = refl
+sums_split e t (x ∷ []) b h = absurd (omega arith)
+sums_split e t (high ∷ (low ∷ a)) b h = sums_split e (add_word t (high * 256 + low)) a b (omega arith)
+
+-- the first 720 bytes of what is left, or all of it
+pub blocks_more : (e : Edition) (t : Sums) (a b : List ℕ) → length a ≡ min 720 (length (a ++ b)) → sums e (sums e t a) b ≡ sums e t (a ++ b)
+unfolding sums
+blocks_more e t a [] h = rw (append-nil a)
+blocks_more e t a (x ∷ b) h = sym (sums_split e t a (x ∷ b) (omega (arith, length-append a (x ∷ b))))
+
+pub blocks_end : (e : Edition) (t : Sums) (s : List ℕ) → length s ≡ 0 → sums e t s ≡ t
+unfolding sums
+blocks_end e t [] h = refl
+blocks_end e t (x ∷ s) h = absurd (omega arith)

@@ -69,45 +69,26 @@ impl Sums {
         let second = reduce(self.second as u64);
         Sums { first, second }
     }
-}
 
-// The word at the place `i`, high byte first.
-fn word_at(text: &[u8], i: usize) -> u16
-    requires { i + 1 < length text.now }
-    ensures { result ≡ get_or text.now i 0 * 256 + get_or text.now (i + 1) 0 }
-{
-    text[i] as u16 * 256 + text[i + 1] as u16
-}
-
-// The sums `t` after so many words more, those of `text` from the place `at` on; not reduced.
-fn add_words(t: Sums, text: &[u8], at: usize, words: usize) -> Sums
-    requires { Reduced t × (words ≤ 360) × (at + 2 * words ≤ length text.now) }
-    ensures { Within words result × ((e : Edition) → sums e (both_reduced result) (drop (at + 2 * words) text.now) ≡ sums e t (drop at text.now)) }
-{
-    let mut t = t;
-    let mut n = 0;
-    while n < words {
-        t = t.plus(word_at(text, at + 2 * n));
-        n += 1;
-    }
-    t
-}
-
-// The sums `t` after all that is left of `text` from the place `at` on. These are fewer than 360 words,
-// so that there is room for an odd last byte as one word more before the sums are reduced.
-fn add_rest(edition: Edition, t: Sums, text: &[u8], at: usize) -> Sums
-    requires { Reduced t × (at ≤ length text.now) × (length text.now < at + 720) }
-    ensures { result ≡ sums edition t (drop at text.now) }
-{
-    let words = (text.len() - at) / 2;
-    let t = add_words(t, text, at, words);
-    let odd = at + 2 * words;
-    if text.len() <= odd {
-        return t.reduced();
-    }
-    match edition {
-        Edition::First => t.reduced(),
-        Edition::Second => t.plus(text[odd] as u16 * 256).reduced(),
+    // Both sums, reduced, after a block of at most 720 bytes. An odd last byte comes after 359 words at
+    // most, so that there is room for it as one word more before the sums are reduced.
+    fn after(self, edition: Edition, block: &[u8]) -> Self
+        requires { Reduced self × (length block.now ≤ 720) }
+        ensures sums { result ≡ sums edition self block.now }
+        ensures reduced { Reduced result }
+    {
+        let (words, odd) = block.as_chunks::<2>();
+        let mut t = self;
+        for &word in words {
+            t = t.plus(u16::from_be_bytes(word));
+        }
+        let Some(&byte) = odd.first() else {
+            return t.reduced();
+        };
+        match edition {
+            Edition::First => t.reduced(),
+            Edition::Second => t.plus(byte as u16 * 256).reduced(),
+        }
     }
 }
 
@@ -116,12 +97,10 @@ pub fn sum_words(edition: Edition, text: &[u8]) -> Sums
     ensures { result ≡ sums edition start text.now }
 {
     let mut t = Sums::new();
-    let mut i = 0;
-    while 2 * MOST_WORDS <= text.len() - i {
-        t = add_words(t, text, i, MOST_WORDS).reduced();
-        i += 2 * MOST_WORDS;
+    for block in text.chunks(2 * MOST_WORDS) {
+        t = t.after(edition, block);
     }
-    add_rest(edition, t, text, i)
+    t
 }
 
 // The value that the field `fletcher` has over `text`.

@@ -1,18 +1,17 @@
 -- Laws of positions: making and taking apart are inverse. Of check values: numbers below 65,536 have 01's.
-use Rattle.std.specs.Prelude.{ℕ, ◌+◌, ◌*◌, ◌/◌, ◌%◌, ◌^◌, ◌<◌, ◌≤◌, ◌≡◌, Bool, true, false}
+use Rattle.std.specs.Prelude.{ℕ, ◌+◌, ◌*◌, ◌/◌, ◌%◌, ◌^◌, ◌<◌, ◌≤◌, ◌≡◌, Bool, true, false, Some}
 use Rattle.std.proofs.Common.{sym, ap, ◌∙◌, mul-le-mul, mod-eq_of_lt, arith, lt-ltb, eqb-true, pow_mono}
 use Rattle.std.proofs.Math.Nat.{div-div-eq-div-mul, div-eq_of_lt}
 use Rattle.std.proofs.lemmas.Bool.{eqb-false}
 use Rattle.std.specs.Int.Bits.{bit_xor}
 use Rattle.std.proofs.lemmas.Nat.{xor_lt}
-use Rattle.position.specs.declared.Made.TheVariants.{At}
 use Rattle.position.specs.Position.{chunks, offsets, codes, types, chunk_of, offset_of, code_of, type_of, is_empty, position_of, made_of, folded, check_of}
 
 -- the fields of any 64 bits make them again
 pub position_of_fields : (p : ℕ) → position_of (chunk_of p) (offset_of p) (code_of p) (type_of p) ≡ p
 position_of_fields p = omega (arith, div-div-eq-div-mul p types codes, div-div-eq-div-mul p (types * codes) offsets)
 
-pub made_of_fields : (p : ℕ) → p < 2 ^ 64 → made_of (chunk_of p) (offset_of p) (code_of p) (type_of p) ≡ At (record { bits = p })
+pub made_of_fields : (p : ℕ) → p < 2 ^ 64 → made_of (chunk_of p) (offset_of p) (code_of p) (type_of p) ≡ Some (record { bits = p })
 unfolding made_of
 made_of_fields p h =
     rw (
@@ -21,7 +20,7 @@ made_of_fields p h =
       lt-ltb (code_of p) codes (omega arith),
       lt-ltb (type_of p) types (omega arith),
     )
-    (ap (λ (b : ℕ). At (record { bits = b })) (position_of_fields p))
+    (ap (λ (b : ℕ). Some (record { bits = b })) (position_of_fields p))
 
 -- a position has the fields that it was made of
 module _ (chunk offset code type : ℕ) (o : offset < offsets) (k : code < codes) (t : type < types) where

@@ -8,18 +8,14 @@
 --   of_bits p                                      the position of those bits, as the code hands it on
 --   is_empty p                                     "Position 0 as a root is the empty map."
 --   position_of c o k t                            the position with those fields
---   made_of c o k t                                the same, or out of range where a field is wider than its bits
---   bound_of k                                     the most bytes that the length code k allows
+--   made_of c o k t                                the same, or none where a field is wider than its bits
+--   bound_of k                                     the most bytes that the length code k allows; none where it sets no bound
 --   holds_length k n                               n is within the bound of the code k
 --   folded x                                       the upper 16 bits of x xor its lower 16 bits
 --   check_of c o n                                 the check value of a page of length n at offset o of chunk c
-use Rattle.std.specs.Prelude.{ℕ, ◌+◌, ◌*◌, ◌/◌, ◌%◌, ◌^◌, Bool, true, cond, ◌&&◌, eqb, ltb, leb}
+use Rattle.std.specs.Prelude.{ℕ, ◌+◌, ◌*◌, ◌/◌, ◌%◌, ◌^◌, Bool, true, cond, ◌&&◌, eqb, ltb, leb, Option, Some, None}
 use Rattle.std.specs.Int.Bits.{bit_xor}
 use Rattle.position.specs.declared.Position.{Position}
-use Rattle.position.specs.declared.Made.{Made}
-use Rattle.position.specs.declared.Made.TheVariants.{At, OutOfRange}
-use Rattle.position.specs.declared.Bound.{Bound}
-use Rattle.position.specs.declared.Bound.TheVariants.{Most, Unbounded}
 
 -- how many values a field has
 abbrev pub chunks : ℕ
@@ -55,19 +51,19 @@ is_empty p = eqb p 0
 abbrev pub position_of : ℕ → ℕ → ℕ → ℕ → ℕ
 position_of chunk offset code type = chunk * (types * codes * offsets) + offset * (types * codes) + code * types + type
 
-unfoldable pub made_of : ℕ → ℕ → ℕ → ℕ → Made
+unfoldable pub made_of : ℕ → ℕ → ℕ → ℕ → Option Position
 made_of chunk offset code type =
     cond ((ltb chunk chunks && ltb offset offsets) && (ltb code codes && ltb type types))
-    (At (record { bits = position_of chunk offset code type }))
-    OutOfRange
+    (Some (record { bits = position_of chunk offset code type }))
+    None
 
 -- "Code c below 31 allows (2 + c mod 2) times 2^(4 + c/2 rounded down) bytes [..] Code 31 sets no bound"
-unfoldable pub bound_of : ℕ → Bound
-bound_of c = cond (ltb c 31) (Most ((2 + c % 2) * 2 ^ (4 + c / 2))) Unbounded
+unfoldable pub bound_of : ℕ → Option ℕ
+bound_of c = cond (ltb c 31) (Some ((2 + c % 2) * 2 ^ (4 + c / 2))) None
 
-unfoldable pub holds : Bound → ℕ → Bool
-holds (Most most) n = leb n most
-holds Unbounded n = true
+unfoldable pub holds : Option ℕ → ℕ → Bool
+holds (Some most) n = leb n most
+holds None n = true
 
 abbrev pub holds_length : ℕ → ℕ → Bool
 holds_length code n = holds (bound_of code) n

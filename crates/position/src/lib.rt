@@ -9,20 +9,6 @@ pub struct Position {
     pub bits: u64,
 }
 
-// A position made of its fields, or a field that is wider than its bits.
-#[derive(Clone, Copy)]
-pub enum Made {
-    At(Position),
-    OutOfRange,
-}
-
-// The most bytes that a length code allows.
-#[derive(Clone, Copy)]
-pub enum Bound {
-    Most(u32),
-    Unbounded,
-}
-
 impl Position {
     pub const TYPE_BITS: u32 = 1;
 
@@ -51,23 +37,18 @@ impl Position {
 
     const CHUNK_UNIT: u64 = Position::OFFSET_UNIT << Position::OFFSET_BITS;
 
-    pub fn make(chunk: u32, offset: u32, code: u32, inner: u32) -> Made
+    // The position with these fields, or none where one is wider than its bits.
+    pub fn make(chunk: u32, offset: u32, code: u32, inner: u32) -> Option<Position>
         ensures { result ≡ made_of chunk offset code inner }
     {
-        if Position::CHUNKS <= chunk {
-            return Made::OutOfRange;
-        }
-        if Position::CODES <= code {
-            return Made::OutOfRange;
-        }
-        if Position::TYPES <= inner {
-            return Made::OutOfRange;
+        if Position::CHUNKS <= chunk || Position::CODES <= code || Position::TYPES <= inner {
+            return None;
         }
         let bits = chunk as u64 * Position::CHUNK_UNIT
             + offset as u64 * Position::OFFSET_UNIT
             + code as u64 * Position::CODE_UNIT
             + inner as u64;
-        Made::At(Position { bits })
+        Some(Position { bits })
     }
 
     pub fn chunk(self) -> u32
@@ -101,25 +82,21 @@ impl Position {
     }
 }
 
-// The most bytes that a page may have under a length code.
-pub fn bound_of(code: u32) -> Bound
+// The most bytes that a page may have under a length code; `None` where it sets no bound.
+pub fn bound_of(code: u32) -> Option<u32>
     ensures { result ≡ bound_of code }
 {
     if 31 <= code {
-        return Bound::Unbounded;
+        return None;
     }
-    Bound::Most((2 + code % 2) << (4 + code / 2))
+    Some((2 + code % 2) << (4 + code / 2))
 }
 
 // Whether a page's length is within its code's bound.
 pub fn holds_length(code: u32, length: u32) -> bool
     ensures { result ≡ holds_length code length }
 {
-    let b = bound_of(code);
-    match b {
-        Bound::Most(most) => length <= most,
-        Bound::Unbounded => true,
-    }
+    bound_of(code).is_none_or(|most| length <= most)
 }
 
 // The upper half of a number xor its lower half.

@@ -1,6 +1,6 @@
 // Questions about positions.
 use super::output;
-use position::{Bound, Made, Position};
+use position::Position;
 
 // `position NUMBER`: its chunk id, offset, length code and type.
 fn take_apart(question: &[u8]) {
@@ -24,25 +24,16 @@ fn make(question: &[u8]) {
         script::number32(question, 4, 16),
     );
     match made {
-        Made::At(p) => {
-            output::number(p.bits);
-        }
-        Made::OutOfRange => {
-            output::word(b"bad");
-        }
+        Some(p) => output::number(p.bits),
+        None => output::word(b"bad"),
     }
 }
 
 // `bound CODE`: the most bytes under a length code.
 fn bound(question: &[u8]) {
-    let b = position::bound_of(script::number32(question, 1, 16));
-    match b {
-        Bound::Most(most) => {
-            output::number(most as u64);
-        }
-        Bound::Unbounded => {
-            output::word(b"none");
-        }
+    match position::bound_of(script::number32(question, 1, 16)) {
+        Some(most) => output::number(most as u64),
+        None => output::word(b"none"),
     }
 }
 

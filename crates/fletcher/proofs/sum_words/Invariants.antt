@@ -1,13 +1,12 @@
-use Prim.Native.Nat.{◌≤◌, ◌-◌}
 use mathlib.Core.Path.{◌≡◌}
-use lib.ListN.{length, drop}
-use Rattle.fletcher.specs.declared.Edition.{Edition}
+use Rattle.std.specs.Slice.Iter.{chunks_rest, chunks_size}
 use Rattle.fletcher.specs.Fletcher.{sums, start}
 use Rattle.fletcher.specs.Plain.{Reduced}
 use Rattle.fletcher.proofs.sum_words.Given as goal
 
-abbrev pub invariant-loop-i : goal.invariant-loop-i
-invariant-loop-i l = (l.i ≤ length l.text) × Reduced l.t × ((e : Edition) → sums e l.t (drop l.i l.text) ≡ sums e start l.text)
-
-abbrev pub decreases-loop-i : goal.decreases-loop-i
-decreases-loop-i l = length l.text - l.i
+abbrev pub invariant-loop-block : goal.invariant-loop-block
+invariant-loop-block l = record {
+  size : chunks_size l.block-iterator ≡ 720;
+  reduced : Reduced l.t;
+  left : sums l.edition l.t (chunks_rest l.block-iterator) ≡ sums l.edition start l.text;
+}

@@ -1,10 +1,7 @@
+use Rattle.std.proofs.Common.{rules, tests}
 use Rattle.position.specs.Position.{holds}
 use Rattle.position.proofs.holds_length.Goals as goal
 
-pub returns-in-Most : goal.returns-in-Most
+pub returns : goal.returns
 unfolding holds
-returns-in-Most c = rw (← c.bound_of-b.ensures, c.in-Most.is)
-
-pub returns-in-Unbounded : goal.returns-in-Unbounded
-unfolding holds
-returns-in-Unbounded c = rw (← c.bound_of-b.ensures, c.in-Unbounded.is)
+returns c = let e = c.is_none_or.ensures in rw (← c.bound_of.ensures) (search (rules, tests))
