@@ -1,4 +1,3 @@
-pub mod Names
 pub mod Image
 pub mod Chunk
 pub mod ImageLaws

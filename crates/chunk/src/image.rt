@@ -1,77 +1,43 @@
 // The image, its blocks, and the three kinds of line that opening reads of it.
-ghost use Rattle.std.specs.Prelude.{◌*◌, ◌≡◌};
-ghost use Rattle.chunk.specs.Names.{given_at, value_at};
-ghost use Rattle.chunk.specs.Image.{block_bytes, blocks_in, no_reading, says_at, plain_line, summed_line, header_line, chunk_line, footer_line};
+ghost use Rattle.std.specs.Prelude.{◌*◌, ◌≤◌, ◌≡◌, length, Some};
+ghost use Rattle.line.specs.Fields.{text_of};
+ghost use Rattle.chunk.specs.Image.{block_bytes, right_blocks, said, says, plain, plain_line, summed_line, header_line, chunk_line, footer_line};
 
 use fletcher::Edition;
-use line::{Fields, Line};
+use line::{Fields, Line, Name};
 
 // What a line says, and where its newline stands in its area.
-#[derive(Clone, Copy)]
+#[derive(Clone, Copy, Debug, PartialEq, Eq)]
 pub struct Reading {
     pub fields: Fields,
     pub newline: usize,
 }
 
 impl Reading {
-    // No line, or a line that breaks a rule.
-    fn none() -> Self
-        ensures { result ≡ no_reading }
+    // The value of a name, if it is given.
+    pub fn get(self, name: Name) -> Option<u64>
+        ensures { result ≡ said (Some self) (text_of name) }
     {
-        let fields = Fields {
-            good: false,
-            given: [false; Fields::NAMES],
-            values: [0; Fields::NAMES],
-        };
-        Reading { fields, newline: 0 }
+        self.fields.get(name)
     }
 
-    // Whether the name of that number is given.
-    pub fn gives(self, name: usize) -> bool
-        ensures { result ≡ given_at self.fields name }
+    // Whether the name is given, with the value `v`.
+    pub fn says(self, name: Name, v: u64) -> bool
+        ensures { result ≡ says (Some self) (text_of name) v }
     {
-        let f = self.fields;
-        let given = f.given;
-        if name < Fields::NAMES {
-            given[name]
-        } else {
-            false
-        }
-    }
-
-    // The value of the name of that number, 0 where it is not given.
-    pub fn value(self, name: usize) -> u64
-        ensures { result ≡ value_at self.fields name }
-    {
-        let f = self.fields;
-        let values = f.values;
-        if name < Fields::NAMES {
-            values[name]
-        } else {
-            0
-        }
-    }
-
-    // Whether the name of that number is given, with the value `v`.
-    pub fn says(self, name: usize, v: u64) -> bool
-        ensures { result ≡ says_at self name v }
-    {
-        self.gives(name) && self.value(name) == v
+        self.get(name) == Some(v)
     }
 }
 
-// The number of blocks of the image; 0 where its size is not right.
-pub fn blocks_in(image: &[u8]) -> u32
-    ensures { result ≡ blocks_in image.now }
+// The number of blocks of the image, if its size is right.
+pub fn blocks_in(image: &[u8]) -> Option<u32>
+    ensures { result ≡ right_blocks image.now }
 {
     let blocks = image.len() / 4096;
-    if blocks < 3 {
-        return 0;
+    if blocks < 3 || 268435456 < blocks {
+        return None;
     }
-    if 268435456 < blocks {
-        return 0;
-    }
-    blocks as u32
+    Some(blocks as u32)
 }
 
 // Where block `b` starts. Blocks past 524287 start past 2^31 - 1.
@@ -81,55 +47,56 @@ fn start_of(b: u32) -> usize
     b as usize * 4096
 }
 
+// What a line of the area says.
+fn read_line(area: &[u8], l: Line) -> Option<Reading>
+    requires { l.len ≤ length area.now }
+    ensures { result ≡ plain area.now (Some l) }
+{
+    let fields = line::read_fields(&area[..l.len])?;
+    Some(Reading {
+        fields,
+        newline: l.newline,
+    })
+}
+
 // What the line of an area says.
-fn plain_line(area: &[u8]) -> Reading
+fn plain_line(area: &[u8]) -> Option<Reading>
     ensures { result ≡ plain_line area.now }
 {
-    let l = line::line_of(area);
-    let Line::At { len, newline } = l else {
-        return Reading::none();
-    };
-    let fields = line::read_fields(&area[..len]);
-    Reading { fields, newline }
+    let l = line::line_of(area)?;
+    read_line(area, l)
 }
 
 // The same, nothing where the line's sum is not right in the edition.
-fn summed_line(edition: Edition, area: &[u8]) -> Reading
+fn summed_line(edition: Edition, area: &[u8]) -> Option<Reading>
     ensures { result ≡ summed_line edition area.now }
 {
-    let l = line::line_of(area);
-    let Line::At { len, newline } = l else {
-        return Reading::none();
-    };
-    if line::right_sum(edition, &area[..len]) {
-        let fields = line::read_fields(&area[..len]);
-        Reading { fields, newline }
+    let l = line::line_of(area)?;
+    if line::right_sum(edition, &area[..l.len]) {
+        read_line(area, l)
     } else {
-        Reading::none()
+        None
     }
 }
 
 // File header copy `copy`, in the block of that number.
-pub fn header_line(image: &[u8], edition: Edition, copy: u32) -> Reading
+pub fn header_line(image: &[u8], edition: Edition, copy: u32) -> Option<Reading>
     ensures { result ≡ header_line image.now edition copy }
 {
     summed_line(edition, text::bytes_at(image, start_of(copy), 4096))
 }
 
 // The chunk header in block `b`.
-pub fn chunk_line(image: &[u8], b: u32) -> Reading
+pub fn chunk_line(image: &[u8], b: u32) -> Option<Reading>
     ensures { result ≡ chunk_line image.now b }
 {
     plain_line(text::bytes_at(image, start_of(b), 1024))
 }
 
 // The footer in the last 128 bytes before block `e`.
-pub fn footer_line(image: &[u8], edition: Edition, e: u32) -> Reading
+pub fn footer_line(image: &[u8], edition: Edition, e: u32) -> Option<Reading>
     ensures { result ≡ footer_line image.now edition e }
 {
-    let end = start_of(e);
-    if end < 128 {
-        return summed_line(edition, text::bytes_at(image, 0, 128));
-    }
-    summed_line(edition, text::bytes_at(image, end - 128, 128))
+    let at = start_of(e).saturating_sub(128);
+    summed_line(edition, text::bytes_at(image, at, 128))
 }

@@ -3,13 +3,12 @@
 
 mod image;
 
-ghost use Rattle.std.specs.Prelude.{◌+◌, ◌^◌, ◌<◌, ◌≡◌};
-ghost use Rattle.chunk.specs.Chunk.{needed, fitting, chunk_by, footer_of, footed, stands_at, said_at, kept, has_id};
-ghost use Rattle.chunk.specs.ChunkLaws.{Small};
+ghost use Rattle.std.specs.Prelude.{◌+◌, ◌^◌, ◌<◌, ◌≤◌, ◌≡◌, Some};
+ghost use Rattle.chunk.specs.Chunk.{told, footer_of, footed, stands_at, said_at, kept, has_id};
 
 use fletcher::Edition;
 pub use image::{Reading, blocks_in, chunk_line, footer_line, header_line};
-use line::Fields;
+use line::Name;
 use position::Position;
 
 // A chunk that stands. `block` and `len` count blocks; `first` is the byte of the chunk at which its
@@ -25,128 +24,80 @@ pub struct Chunk {
     pub version: u64,
 }
 
-#[derive(Clone, Copy)]
-pub enum Standing {
-    Stands(Chunk),
-    Nothing,
-}
-
-// Whether a chunk header has all the fields that are needed.
-fn has_needed(r: Reading) -> bool
-    ensures { result ≡ needed r }
+// The chunk that a header in block `b` says, if it has all the fields that are needed and fits the block
+// of an image of so many blocks. Its pages begin after the header's newline.
+fn chunk_of(blocks: u32, b: u32, r: Reading) -> Option<Chunk>
+    requires inside { b ≤ blocks }
+    requires small { r.newline < 1024 }
+    ensures { result ≡ told blocks b (Some r) }
 {
-    r.gives(Fields::CHUNK)
-        && (r.gives(Fields::BLOCK)
-            && (r.gives(Fields::LEN)
-                && (r.gives(Fields::NEXT)
-                    && (r.gives(Fields::PAGES)
-                        && (r.gives(Fields::ROOT) && r.gives(Fields::VERSION))))))
-}
-
-// Whether what it says fits block `b` of an image of so many blocks.
-fn fits(blocks: u32, b: u32, r: Reading) -> bool
-    ensures { result ≡ fitting blocks b r }
-{
-    let len = r.value(Fields::LEN);
-    if 67108864 <= r.value(Fields::CHUNK) {
-        return false;
+    let id = r.get(Name::Chunk)?;
+    let block = r.get(Name::Block)?;
+    let len = r.get(Name::Len)?;
+    let next = r.get(Name::Next)?;
+    let _pages = r.get(Name::Pages)?;
+    let root = r.get(Name::Root)?;
+    let version = r.get(Name::Version)?;
+    if 67108864 <= id || block != b as u64 {
+        return None;
     }
-    if r.value(Fields::BLOCK) != b as u64 {
-        return false;
+    let room = (blocks - b) as u64;
+    if len < 1 || room < len {
+        return None;
     }
-    if len < 1 {
-        return false;
-    }
-    if blocks < b {
-        return false;
-    }
-    len <= (blocks - b) as u64
-}
-
-// The chunk that a header says; its pages begin after the header's newline.
-fn chunk_of(b: u32, r: Reading) -> Chunk
-    requires { Small r }
-    ensures { result ≡ chunk_by b r }
-{
-    Chunk {
-        id: r.value(Fields::CHUNK) as u32,
+    Some(Chunk {
+        id: id as u32,
         block: b,
-        len: r.value(Fields::LEN) as u32,
+        len: len as u32,
         first: r.newline as u32 + 1,
-        next: r.value(Fields::NEXT),
-        root: Position {
-            bits: r.value(Fields::ROOT),
-        },
-        version: r.value(Fields::VERSION),
-    }
+        next,
+        root: Position { bits: root },
+        version,
+    })
 }
 
 // Whether a footer's reading is the footer of the chunk.
 pub fn is_footer(c: Chunk, r: Reading) -> bool
-    ensures { result ≡ footer_of c r }
+    ensures { result ≡ footer_of c (Some r) }
 {
     let id = c.id as u64;
     let block = c.block as u64;
-    r.says(Fields::CHUNK, id)
-        && (r.says(Fields::BLOCK, block) && r.says(Fields::VERSION, c.version))
+    r.says(Name::Chunk, id) && (r.says(Name::Block, block) && r.says(Name::Version, c.version))
 }
 
 // The chunk, if its footer stands where it ends.
-fn with_footer(image: &[u8], edition: Edition, c: Chunk) -> Standing
+fn with_footer(image: &[u8], edition: Edition, c: Chunk) -> Option<Chunk>
     requires { c.block + c.len < 2 ^ 32 }
     ensures { result ≡ footed image.now edition c }
 {
-    let r = footer_line(image, edition, c.block + c.len);
-    if is_footer(c, r) {
-        Standing::Stands(c)
-    } else {
-        Standing::Nothing
-    }
+    let r = footer_line(image, edition, c.block + c.len)?;
+    if is_footer(c, r) { Some(c) } else { None }
 }
 
 // The chunk that the header in block `b` says, whatever its footer is.
-pub fn said_at(image: &[u8], b: u64) -> Standing
+pub fn said_at(image: &[u8], b: u64) -> Option<Chunk>
     ensures { result ≡ said_at image.now b }
 {
-    let blocks = blocks_in(image);
-    if b < 2 {
-        return Standing::Nothing;
-    }
-    if blocks as u64 <= b {
-        return Standing::Nothing;
+    let blocks = blocks_in(image)?;
+    if b < 2 || blocks as u64 <= b {
+        return None;
     }
     let block = b as u32;
-    let r = chunk_line(image, block);
-    if has_needed(r) {} else {
-        return Standing::Nothing;
-    }
-    if fits(blocks, block, r) {} else {
-        return Standing::Nothing;
-    }
-    Standing::Stands(chunk_of(block, r))
+    let r = chunk_line(image, block)?;
+    chunk_of(blocks, block, r)
 }
 
 // The chunk that stands at block `b`.
-pub fn stands_at(image: &[u8], edition: Edition, b: u64) -> Standing
+pub fn stands_at(image: &[u8], edition: Edition, b: u64) -> Option<Chunk>
     ensures { result ≡ stands_at image.now edition b }
 {
-    let s = said_at(image, b);
-    let Standing::Stands(c) = s else {
-        return Standing::Nothing;
-    };
+    let c = said_at(image, b)?;
     with_footer(image, edition, c)
 }
 
 // The chunk that stands, if it has the id.
-pub fn with_id(s: Standing, id: u64) -> Standing
+pub fn with_id(s: Option<Chunk>, id: u64) -> Option<Chunk>
     ensures { result ≡ kept (has_id id) s }
 {
-    let Standing::Stands(c) = s else {
-        return Standing::Nothing;
-    };
-    if c.id as u64 == id {
-        s
-    } else {
-        Standing::Nothing
-    }
+    s.filter(|c| c.id as u64 == id)
 }

@@ -1,18 +1,9 @@
 use native.Mathlib.Omega.{arith}
 use mathlib.Core.Path.{sym, ◌∙◌}
-use lib.Seq.{length-take-le}
 use Rattle.line.specs.LineLaws.{line_inside}
 use Rattle.chunk.proofs.image.plain_line.Goals as goal
 
-pub returns-in_default : goal.returns-in_default
-returns-in_default c = rw (← c.line_of-l.ensures, c.in_default.is) c.none.ensures
-
-pub slice_bounds-read_fields-end : goal.slice_bounds-read_fields-end
-slice_bounds-read_fields-end c =
-    let area = c.args.area.now in
-    let p = line_inside area _ _ (sym c.line_of-l.ensures ∙ c.in-At.is) in
-    sym (length-take-le c.in-At.len area (omega (arith, p.before, p.inside)))
-
-pub returns : goal.returns
-returns c =
-    rw (← c.line_of-l.ensures, c.in-At.is, c.read_fields-fields.ensures)
+pub read_line-requires : goal.read_line-requires
+read_line-requires c =
+    let p = line_inside c.args.area.now c.in_ok-l.l (sym c.line_of.ensures ∙ c.in_ok-l.was) in
+    omega (arith, p.before, p.inside)
