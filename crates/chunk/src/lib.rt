@@ -13,7 +13,7 @@ use position::Position;
 
 // A chunk that stands. `block` and `len` count blocks; `first` is the byte of the chunk at which its
 // pages may begin.
-#[derive(Clone, Copy)]
+#[derive(Clone, Copy, Debug, PartialEq, Eq)]
 pub struct Chunk {
     pub id: u32,
     pub block: u32,

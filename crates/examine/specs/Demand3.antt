@@ -14,7 +14,7 @@ use Rattle.key.specs.declared.Kind.{Kind}
 use Rattle.key.specs.Key.{Key, key_of, well_formed, compare_keys}
 use Rattle.tree.specs.Asking.{map_entries}
 use Rattle.tree.specs.Sound.{Sound}
-use Rattle.tree.specs.Examination.{Report}
+use Rattle.tree.specs.declared.Report.{Report}
 use Rattle.opening.specs.declared.View.{View}
 use Rattle.opening.specs.declared.Store.{Store}
 use Rattle.content.specs.Content.{Entry, key_in}

@@ -10,14 +10,14 @@ const MOST_WORDS: usize = 360;
 
 // How an odd last byte counts: in the first edition not at all, in the second as the high half of a
 // word whose low half is 0.
-#[derive(Clone, Copy)]
+#[derive(Clone, Copy, Debug, PartialEq, Eq)]
 pub enum Edition {
     First,
     Second,
 }
 
 // Both running sums.
-#[derive(Clone, Copy)]
+#[derive(Clone, Copy, Debug, PartialEq, Eq)]
 pub struct Sums {
     pub first: u32,
     pub second: u32,

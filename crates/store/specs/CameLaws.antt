@@ -12,7 +12,8 @@ use Rattle.refusal.specs.declared.Refusal.{Refusal}
 use Rattle.refusal.specs.Refusal.{Outcome, bind}
 use Rattle.key.specs.declared.Kind.{Kind}
 use Rattle.key.specs.Key.{Key, text, compare_keys}
-use Rattle.tree.specs.Examination.{Report, nothing, both, counted, examine_children, examine}
+use Rattle.tree.specs.declared.Report.{Report}
+use Rattle.tree.specs.Examination.{nothing, both, counted, examine_children, examine}
 use Rattle.tree.specs.InnerPage.{children_from, sum, examine_from}
 use Rattle.tree.proofs.ChildrenLaws.{more_from, last_from, examine_from_lem}
 use Rattle.tree.proofs.Bounds.{Few, Small, nothing_few, both_few, children_small, children_total, examine_bounded, examine_below}

@@ -19,7 +19,8 @@ use Rattle.key.specs.Laws.{key_order}
 use Rattle.tree.specs.Page.{branch}
 use Rattle.tree.specs.Rising.{separators_test}
 use Rattle.tree.proofs.RisingLaws.{keys_test_lem, separators_test_lem}
-use Rattle.tree.specs.Examination.{Report, one_leaf, over, filled, keys_lie, examine_children, examine_page, examine, map_examine}
+use Rattle.tree.specs.declared.Report.{Report}
+use Rattle.tree.specs.Examination.{one_leaf, over, filled, keys_lie, examine_children, examine_page, examine, map_examine}
 use Rattle.tree.proofs.ChildrenLaws.{separators_children_of}
 use Rattle.opening.specs.declared.Store.{Store}
 use Rattle.page.specs.declared.Judged.{Judged}

@@ -8,7 +8,8 @@ use Rattle.std.specs.Prelude.{ℕ, ◌+◌, ◌^◌, ◌<◌, max, Bool, false, 
 use Rattle.refusal.specs.Refusal.{Outcome, unsound}
 use Rattle.key.specs.declared.Kind.{Kind}
 use Rattle.key.specs.Key.{compare_keys}
-use Rattle.tree.specs.Examination.{Report, examine, examine_children, map_examine}
+use Rattle.tree.specs.declared.Report.{Report}
+use Rattle.tree.specs.Examination.{examine, examine_children, map_examine}
 use Rattle.opening.specs.declared.Store.{Store}
 use Rattle.content.specs.WholeLaws.{InnerWhole, children_in}
 use Rattle.rising.specs.Rising.{bound_key}

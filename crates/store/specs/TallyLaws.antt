@@ -13,7 +13,8 @@ use Rattle.std.proofs.Math.Dec.{eqb}
 use Rattle.refusal.specs.declared.Refusal.{Refusal}
 use Rattle.refusal.specs.Refusal.{Outcome, bind, unsound}
 use Rattle.tree.specs.Page.{branch}
-use Rattle.tree.specs.Examination.{Report, both, counted}
+use Rattle.tree.specs.declared.Report.{Report}
+use Rattle.tree.specs.Examination.{both, counted}
 use Rattle.tree.proofs.Bounds.{Few}
 use Rattle.soundness.specs.declared.Examined.{Examined}
 use Rattle.soundness.specs.declared.Examined.TheVariants as examined

@@ -1,19 +1,19 @@
+use Rattle.refusal.proofs.Passing.{handed_up}
 use Rattle.soundness.specs.Examining.{part_of}
 use Rattle.soundness.proofs.part_at.Goals as goal
 
-pub returns-then-separators_lie : goal.returns-then-separators_lie
+pub returns-in_err-report-in-Leaf : goal.returns-in_err-report-in-Leaf
 unfolding part_of
-returns-then-separators_lie c = rw (c.in-Inner.is, ← c.separators_lie.ensures, c.if-separators_lie.true)
+returns-in_err-report-in-Leaf c = rw (c.in-Leaf.is, ← c.leaf_of.ensures, c.in_err-report-in-Leaf.was) (handed_up c.from_residual.ensures)
 
-pub returns-in-Refused : goal.returns-in-Refused
+pub returns-in_ok-report-in-Leaf : goal.returns-in_ok-report-in-Leaf
 unfolding part_of
-returns-in-Refused c = rw c.in-Refused.is
+returns-in_ok-report-in-Leaf c = rw (c.in-Leaf.is, ← c.leaf_of.ensures, c.in_ok-report-in-Leaf.was)
 
-pub returns-in-Leaf : goal.returns-in-Leaf
+pub returns-then-not-separators_lie : goal.returns-then-not-separators_lie
 unfolding part_of
-returns-in-Leaf c = rw (c.in-Leaf.is, c.leaf_of.ensures)
+returns-then-not-separators_lie c = rw (c.in-Inner.is, ← c.separators_lie.ensures, c.if-not-separators_lie.true)
 
-pub returns-else-separators_lie : goal.returns-else-separators_lie
+pub returns-else-not-separators_lie : goal.returns-else-not-separators_lie
 unfolding part_of
-returns-else-separators_lie c =
-    rw (c.in-Inner.is, ← c.separators_lie.ensures, c.if-separators_lie.false, c.new.ensures)
+returns-else-not-separators_lie c = rw (c.in-Inner.is, ← c.separators_lie.ensures, c.if-not-separators_lie.false)

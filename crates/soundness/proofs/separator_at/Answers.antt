@@ -1,10 +1,10 @@
 use Rattle.soundness.specs.Examining.{separator_at}
 use Rattle.soundness.proofs.separator_at.Goals as goal
 
-pub returns-in-At : goal.returns-in-At
+pub returns-in-Some : goal.returns-in-Some
 unfolding separator_at
-returns-in-At c = rw (← c.key_form.ensures, ← c.item_at-it.ensures, c.in-At.is)
+returns-in-Some c = rw (← c.key_form.ensures, ← c.item_at-item.ensures, c.in-Some.is)
 
-pub returns-in-Bad : goal.returns-in-Bad
+pub returns-in-None : goal.returns-in-None
 unfolding separator_at
-returns-in-Bad c = rw (← c.key_form.ensures, ← c.item_at-it.ensures, c.in-Bad.is)
+returns-in-None c = rw (← c.key_form.ensures, ← c.item_at-item.ensures, c.in-None.is)
