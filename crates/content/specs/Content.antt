@@ -26,7 +26,7 @@ use Rattle.page.specs.declared.Judged.TheVariants.{Leaf, Inner}
 use Rattle.page.specs.Judged.{key_form, judged_at}
 use Rattle.content.specs.declared.Probe.{Probe}
 use Rattle.content.specs.declared.Picked.{Picked}
-pub use Rattle.content.specs.declared.Entry.{Entry}
+use Rattle.content.specs.declared.Entry.{Entry}
 
 unfoldable pub key_in : List ℕ → Kind → Spot → Key
 key_in s kind p = key_of kind (take p.len (drop p.at s))

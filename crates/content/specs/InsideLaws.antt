@@ -23,7 +23,8 @@ use Rattle.item.specs.ItemLaws.{item_lies}
 use Rattle.page.specs.declared.Judged.{Judged}
 use Rattle.page.specs.declared.Judged.TheVariants.{Leaf, Inner}
 use Rattle.page.specs.Judged.{key_form}
-use Rattle.content.specs.Content.{Entry, key_in, paired, entries_in, page_of}
+use Rattle.content.specs.declared.Entry.{Entry}
+use Rattle.content.specs.Content.{key_in, paired, entries_in, page_of}
 
 abbrev pub Inside : List ℕ → Spot → Type 0
 Inside s p = p.at + p.len ≤ length s

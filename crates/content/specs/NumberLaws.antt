@@ -15,7 +15,8 @@ use Rattle.item.specs.Step.{Step, got, bad, on_step, up_to}
 use Rattle.item.specs.StepLaws.{up_to_bad}
 use Rattle.item.specs.Item.{Spot, items}
 use Rattle.item.specs.ItemLaws.{word_fits, word_bad}
-use Rattle.content.specs.Content.{Entry, positions_in, paired}
+use Rattle.content.specs.declared.Entry.{Entry}
+use Rattle.content.specs.Content.{positions_in, paired}
 
 -- ## The position of a child
 module _ (s : List ℕ) where

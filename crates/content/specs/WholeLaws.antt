@@ -32,7 +32,8 @@ use Rattle.page.specs.declared.Leaf.{Leaf}
 use Rattle.page.specs.declared.Inner.{Inner}
 use Rattle.page.specs.Judged.{key_form, judged_at}
 use Rattle.page.specs.PassedLaws.{LeafPassed, InnerPassed, Passed, judged_passed}
-use Rattle.content.specs.Content.{Entry, key_in, keys_in, positions_in, counts_in, paired, entries_in, page_of, page_in, pick}
+use Rattle.content.specs.declared.Entry.{Entry}
+use Rattle.content.specs.Content.{key_in, keys_in, positions_in, counts_in, paired, entries_in, page_of, page_in, pick}
 use Rattle.content.specs.PickLaws.{picked, index_pick}
 
 pub record LeafWhole (s : List ℕ) (kind : Kind) (n keys values : ℕ) : Type 0 where

@@ -6,7 +6,8 @@ use Rattle.key.specs.Key.{Key}
 use Rattle.page.specs.declared.Judged.{Judged}
 use Rattle.page.specs.declared.Judged.TheVariants as judged
 use Rattle.content.specs.declared.Nth.TheVariants as nth
-use Rattle.content.specs.Content.{Entry, entries_in, nth_of}
+use Rattle.content.specs.declared.Entry.{Entry}
+use Rattle.content.specs.Content.{entries_in, nth_of}
 use Rattle.cursor.specs.declared.follow.After.TheVariants as after
 use Rattle.cursor.specs.Steps.{entry_after, first_of}
 

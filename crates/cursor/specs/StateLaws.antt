@@ -4,7 +4,7 @@ use Rattle.std.proofs.Common.{◌∙◌, ap, true≢false, append_assoc, add-one
 use Rattle.std.proofs.lemmas.List.{length-replicate, replicate-append-replicate, set_at}
 use Rattle.key.specs.Key.{Key}
 use Rattle.tree.proofs.WalkLaws.{prefixed}
-use Rattle.content.specs.Content.{Entry}
+use Rattle.content.specs.declared.Entry.{Entry}
 use Rattle.cursor.specs.declared.Walk.{Walk}
 use Rattle.cursor.specs.Walk.{zeros, formed, leading, yield_of, settled}
 use Rattle.cursor.specs.Steps.{numbered}

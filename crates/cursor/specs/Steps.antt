@@ -14,7 +14,8 @@ use Rattle.key.specs.declared.Kind.{Kind}
 use Rattle.key.specs.Key.{Key}
 use Rattle.page.specs.declared.Judged.{Judged}
 use Rattle.page.specs.declared.Judged.TheVariants as judged
-use Rattle.content.specs.Content.{Entry, entries_in, positions_in}
+use Rattle.content.specs.declared.Entry.{Entry}
+use Rattle.content.specs.Content.{entries_in, positions_in}
 use Rattle.cursor.specs.declared.Walk.{Walk}
 use Rattle.cursor.specs.declared.Yield.TheVariants as yields
 use Rattle.cursor.specs.declared.Stepped.{Stepped}

@@ -12,7 +12,7 @@ use Rattle.refusal.specs.Refusal.{Outcome, unsound}
 use Rattle.key.specs.Key.{Key}
 use Rattle.tree.specs.Page.{branch, Page}
 use Rattle.tree.specs.Walk.{Moved, yield, over, stop, map_next}
-use Rattle.content.specs.Content.{Entry}
+use Rattle.content.specs.declared.Entry.{Entry}
 use Rattle.cursor.specs.declared.Walk.{Walk}
 use Rattle.cursor.specs.declared.Yield.{Yield}
 use Rattle.cursor.specs.declared.Yield.TheVariants as yields

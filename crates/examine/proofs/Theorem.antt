@@ -15,7 +15,7 @@ use Rattle.tree.specs.Demand3.{Passes as PassesTree}
 use Rattle.tree.proofs.Theorem.{examined, passed_answers, passed_entries}
 use Rattle.opening.specs.declared.View.{View}
 use Rattle.opening.specs.declared.Store.{Store}
-use Rattle.content.specs.Content.{Entry}
+use Rattle.content.specs.declared.Entry.{Entry}
 use Rattle.store.specs.Store.{reader}
 use Rattle.store.specs.Asking.{in_map, lookup_in, index_in, count_in}
 use Rattle.store.specs.Examining.{examine_in}

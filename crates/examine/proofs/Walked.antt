@@ -8,7 +8,8 @@ use Rattle.key.specs.Key.{Key}
 use Rattle.tree.specs.Page.{All}
 use Rattle.tree.specs.Walk.{Moved, yield, over, stop}
 use Rattle.opening.specs.declared.View.{View}
-use Rattle.content.specs.Content.{Entry, key_in}
+use Rattle.content.specs.declared.Entry.{Entry}
+use Rattle.content.specs.Content.{key_in}
 use Rattle.cursor.specs.declared.Walk.{Walk}
 use Rattle.cursor.specs.declared.Yield.TheVariants as yields
 use Rattle.cursor.specs.declared.Stepped.{Stepped}

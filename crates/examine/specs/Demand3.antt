@@ -17,7 +17,8 @@ use Rattle.tree.specs.Sound.{Sound}
 use Rattle.tree.specs.declared.Report.{Report}
 use Rattle.opening.specs.declared.View.{View}
 use Rattle.opening.specs.declared.Store.{Store}
-use Rattle.content.specs.Content.{Entry, key_in}
+use Rattle.content.specs.declared.Entry.{Entry}
+use Rattle.content.specs.Content.{key_in}
 use Rattle.store.specs.Store.{reader, map_root}
 use Rattle.viewing.specs.Viewing.{opened_store}
 use Rattle.map.specs.Map.{asked_map, lookup_of, index_of, count_of}

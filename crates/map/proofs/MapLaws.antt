@@ -23,7 +23,8 @@ use Rattle.key.specs.Key.{Key, key_of, well_formed}
 use Rattle.opening.specs.declared.View.{View}
 use Rattle.opening.specs.declared.Store.{Store}
 use Rattle.item.specs.Item.{Spot}
-use Rattle.content.specs.Content.{Entry, key_in}
+use Rattle.content.specs.declared.Entry.{Entry}
+use Rattle.content.specs.Content.{key_in}
 use Rattle.metadata.specs.declared.Value.{Value}
 use Rattle.metadata.specs.declared.Value.TheVariants as value
 use Rattle.store.specs.Store.{named_map}

@@ -15,7 +15,8 @@ use Rattle.key.specs.Key.{Key, number, text, key_of, well_formed}
 use Rattle.tree.specs.Page.{branch}
 use Rattle.opening.specs.declared.View.{View}
 use Rattle.opening.specs.declared.Store.{Store}
-use Rattle.content.specs.Content.{Entry, key_in}
+use Rattle.content.specs.declared.Entry.{Entry}
+use Rattle.content.specs.Content.{key_in}
 use Rattle.store.specs.declared.Fetched.{Fetched}
 use Rattle.store.specs.declared.Fetched.TheVariants as fetched
 use Rattle.metadata.specs.Answers.{value_bytes}

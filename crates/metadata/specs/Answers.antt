@@ -7,37 +7,24 @@
 --   need_of f                             the questions that a lookup's answer took, 0 for a refusal
 --   location_by image edition n f         where chunk n stands by the answer of its lookup, with the questions that the lookup took
 --   located_by, value_by, id_by, root_by  the answers by a chunk's location, or by what a lookup answered
---   place_said, id_said, root_said        the answers of the code as outcomes
-use Rattle.std.specs.Prelude.{ℕ, cond, List, Err, None, Ok, Option, Some}
-use Rattle.refusal.specs.Refusal.{Outcome, not_located, no_such_name, not_a_number}
+--   root_said                             a root as its bits
+use Rattle.std.specs.Prelude.{ℕ, cond, List, Err, None, Ok, Option, Some, option_and_then}
+use Rattle.refusal.specs.Refusal.{Outcome, bind, not_located, no_such_name, not_a_number}
 use Rattle.text.specs.Text.{bytes_at, within}
-use Rattle.numeral.specs.declared.hex.Number.{Number}
-use Rattle.numeral.specs.declared.hex.Number.TheVariants as number
 use Rattle.numeral.specs.Hex.{hex_of}
 use Rattle.fletcher.specs.declared.Edition.{Edition}
 use Rattle.line.specs.declared.read.Fields.{Fields}
 use Rattle.line.specs.Fields.{name_block, read_of}
+use Rattle.line.specs.Reading.{value_of}
 use Rattle.tree.specs.Page.{branch}
 use Rattle.chunk.specs.declared.Chunk.{Chunk}
-use Rattle.chunk.specs.declared.Standing.{Standing}
-use Rattle.chunk.specs.declared.Standing.TheVariants.{Stands, Nothing}
-use Rattle.chunk.specs.Names.{given_of, value_of}
 use Rattle.chunk.specs.Chunk.{stands_at, kept, has_id}
 use Rattle.item.specs.Item.{Spot}
 use Rattle.page.specs.declared.Place.{Place}
-use Rattle.content.specs.Content.{Entry}
+use Rattle.content.specs.declared.Entry.{Entry}
 use Rattle.metadata.specs.declared.Location.{Location}
-use Rattle.metadata.specs.declared.Location.TheVariants as location
 use Rattle.metadata.specs.declared.Answer.{Answer}
-use Rattle.metadata.specs.declared.Answer.TheVariants as answer
-use Rattle.metadata.specs.declared.Located.{Located}
-use Rattle.metadata.specs.declared.Located.TheVariants as located
-use Rattle.metadata.specs.declared.Id.{Id}
-use Rattle.metadata.specs.declared.Id.TheVariants as id
-use Rattle.metadata.specs.declared.Root.{Root}
-use Rattle.metadata.specs.declared.Root.TheVariants as root
-use Rattle.metadata.specs.declared.Value.{Value}
-use Rattle.metadata.specs.declared.Value.TheVariants as value
+use Rattle.position.specs.declared.Position.{Position}
 
 abbrev pub value_bytes : List ℕ → Spot → List ℕ
 value_bytes image s = bytes_at image s.at s.len
@@ -48,26 +35,26 @@ abbrev pub place_of : Chunk → Place
 place_of c = record { block = c.block; len = c.len; first = c.first }
 
 -- "the value's bytes are a line in the sense above, without the newline; its `block` says where chunk N must stand"
-abbrev pub stands_by : List ℕ → Edition → ℕ → Fields → Standing
-stands_by image edition n f = cond (given_of f name_block) (kept (has_id n) (stands_at image edition (value_of f name_block))) Nothing
+abbrev pub stands_by : List ℕ → Edition → ℕ → Option Fields → Option Chunk
+stands_by image edition n f = option_and_then (λ b. kept (has_id n) (stands_at image edition b)) (option_and_then (λ x. value_of x name_block) f)
 
-unfoldable pub standing_by : List ℕ → Edition → ℕ → Spot → Standing
+unfoldable pub standing_by : List ℕ → Edition → ℕ → Spot → Option Chunk
 standing_by image edition n v = stands_by image edition n (read_of (value_bytes image v))
 
 -- "5: [..] unusable entry, or chunk not standing there"
-abbrev pub placed_at : Standing → Outcome Place
-placed_at Nothing = Err not_located
-placed_at (Stands c) = Ok (place_of c)
+abbrev pub placed_at : Option Chunk → Outcome Place
+placed_at None = Err not_located
+placed_at (Some c) = Ok (place_of c)
 
 -- ## A map's id and root
 -- "Hex values follow the digits rule of a line; an id is 1 to 2^31-1."
-abbrev pub id_of : Number → Outcome ℕ
-id_of (number.Value v) = branch (within 1 0x7fffffff v) (Ok v) (Err not_a_number)
-id_of number.Bad = Err not_a_number
+abbrev pub id_of : Option ℕ → Outcome ℕ
+id_of (Some v) = branch (within 1 0x7fffffff v) (Ok v) (Err not_a_number)
+id_of None = Err not_a_number
 
-abbrev pub root_of : Number → Outcome ℕ
-root_of (number.Value v) = Ok v
-root_of number.Bad = Err not_a_number
+abbrev pub root_of : Option ℕ → Outcome ℕ
+root_of (Some v) = Ok v
+root_of None = Err not_a_number
 
 abbrev pub named_id : List ℕ → Option Entry → Outcome ℕ
 named_id image None = Err no_such_name
@@ -78,49 +65,43 @@ named_root image None = Ok 0
 named_root image (Some e) = root_of (hex_of (value_bytes image e.value))
 
 -- ## What the code hands back
-abbrev pub place_said : Located → Outcome Place
-place_said (located.At l) = Ok l
-place_said (located.Refused r) = Err r
+-- a root is a position: its bits
+abbrev pub root_said : Outcome Position → Outcome ℕ
+root_said (Ok p) = Ok p.bits
+root_said (Err r) = Err r
 
-abbrev pub id_said : Id → Outcome ℕ
-id_said (id.Is n) = Ok n
-id_said (id.Refused r) = Err r
+abbrev pub need_of : Outcome Answer → ℕ
+need_of (Ok a) = a.need
+need_of (Err r) = 0
 
-abbrev pub root_said : Root → Outcome ℕ
-root_said (root.At p) = Ok p.bits
-root_said (root.Refused r) = Err r
-
-abbrev pub need_of : Answer → ℕ
-need_of (answer.Found at len need) = need
-need_of (answer.Absent need) = need
-need_of (answer.Refused r) = 0
-
-abbrev pub location_of : ℕ → Outcome Place → Location
-location_of need (Ok l) = location.At l need
-location_of need (Err r) = location.Refused r
+abbrev pub location_of : ℕ → Outcome Place → Outcome Location
+location_of need (Ok l) = Ok (record { place = l; need = need })
+location_of need (Err r) = Err r
 
 -- "5: no entry, [..]"; "A refusal of such a lookup is handed up unchanged."
-unfoldable pub location_by : List ℕ → Edition → ℕ → Answer → Location
-location_by image edition n (answer.Found at len need) =
-    location_of need (placed_at (standing_by image edition n (record { at = at; len = len })))
-location_by image edition n (answer.Absent need) = location.Refused not_located
-location_by image edition n (answer.Refused r) = location.Refused r
+abbrev pub location_at : List ℕ → Edition → ℕ → ℕ → Option Spot → Outcome Location
+location_at image edition n need (Some v) = location_of need (placed_at (standing_by image edition n v))
+location_at image edition n need None = Err not_located
 
-unfoldable pub located_by : Location → Located
-located_by (location.At l need) = located.At l
-located_by (location.Refused r) = located.Refused r
+unfoldable pub location_by : List ℕ → Edition → ℕ → Outcome Answer → Outcome Location
+location_by image edition n f = bind f (λ a. location_at image edition n a.need a.value)
 
-unfoldable pub value_by : Answer → Value
-value_by (answer.Found at len need) = value.At at len
-value_by (answer.Absent need) = value.Absent
-value_by (answer.Refused r) = value.Refused r
+unfoldable pub located_by : Outcome Location → Outcome Place
+located_by l = bind l (λ x. Ok x.place)
 
-unfoldable pub id_by : List ℕ → Answer → Outcome ℕ
-id_by image (answer.Found at len need) = id_of (hex_of (value_bytes image (record { at = at; len = len })))
-id_by image (answer.Absent need) = Err no_such_name
-id_by image (answer.Refused r) = Err r
+unfoldable pub value_by : Outcome Answer → Outcome (Option Spot)
+value_by f = bind f (λ a. Ok a.value)
 
-unfoldable pub root_by : List ℕ → Answer → Outcome ℕ
-root_by image (answer.Found at len need) = root_of (hex_of (value_bytes image (record { at = at; len = len })))
-root_by image (answer.Absent need) = Ok 0
-root_by image (answer.Refused r) = Err r
+abbrev pub id_at : List ℕ → Option Spot → Outcome ℕ
+id_at image (Some v) = id_of (hex_of (value_bytes image v))
+id_at image None = Err no_such_name
+
+unfoldable pub id_by : List ℕ → Outcome Answer → Outcome ℕ
+id_by image f = bind f (λ a. id_at image a.value)
+
+abbrev pub root_at : List ℕ → Option Spot → Outcome ℕ
+root_at image (Some v) = root_of (hex_of (value_bytes image v))
+root_at image None = Ok 0
+
+unfoldable pub root_by : List ℕ → Outcome Answer → Outcome ℕ
+root_by image f = bind f (λ a. root_at image a.value)

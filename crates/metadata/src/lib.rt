@@ -6,57 +6,31 @@ mod descent;
 mod keys;
 
 ghost use Rattle.std.specs.Prelude.{◌≡◌};
-ghost use Rattle.metadata.specs.Answers.{place_of, standing_by, id_of, root_of, id_said, root_said, location_by, located_by, value_by, id_by, root_by};
+ghost use Rattle.metadata.specs.Answers.{place_of, standing_by, id_of, root_of, root_said, location_by, located_by, value_by, id_by, root_by};
 
-use chunk::{Chunk, Standing};
+use chunk::Chunk;
 pub use descent::{Advance, Step, advance_at};
 use fletcher::Edition;
 pub use keys::{NAME, NameKey, NumberKey, chunk_key, name_key, root_key};
-use line::Fields;
-use numeral::Number;
+use line::Name;
 use page::Place;
 use position::Position;
 use refusal::Refusal;
+use text::Spot;
 
-// Where a chunk is, and the questions that locating it takes; or the refusal.
-#[derive(Clone, Copy)]
-pub enum Location {
-    At { place: Place, need: u32 },
-    Refused(Refusal),
+// Where a chunk is, and the questions that locating it takes.
+#[derive(Clone, Copy, Debug, PartialEq, Eq)]
+pub struct Location {
+    pub place: Place,
+    pub need: u32,
 }
 
-// What a lookup found: a value by place and length, with the questions that the lookup takes.
-#[derive(Clone, Copy)]
-pub enum Answer {
-    Found { at: usize, len: usize, need: u32 },
-    Absent { need: u32 },
-    Refused(Refusal),
-}
-
-#[derive(Clone, Copy)]
-pub enum Located {
-    At(Place),
-    Refused(Refusal),
-}
-
-#[derive(Clone, Copy)]
-pub enum Id {
-    Is(u32),
-    Refused(Refusal),
-}
-
-#[derive(Clone, Copy)]
-pub enum Root {
-    At(Position),
-    Refused(Refusal),
-}
-
-// A value by place and length.
-#[derive(Clone, Copy)]
-pub enum Value {
-    At { at: usize, len: usize },
-    Absent,
-    Refused(Refusal),
+// What a lookup found, if there is an entry: the value by place and length; and the questions that the
+// lookup takes.
+#[derive(Clone, Copy, Debug, PartialEq, Eq)]
+pub struct Answer {
+    pub value: Option<Spot>,
+    pub need: u32,
 }
 
 // What a page's rules need of the chunk that it stands in.
@@ -70,111 +44,95 @@ pub fn place_of(c: Chunk) -> Place
     }
 }
 
-// Chunk `n` where the metadata value at a place says that it stands.
-fn standing_by(image: &[u8], edition: Edition, n: u32, at: usize, len: usize) -> Standing
-    ensures { result ≡ standing_by image.now edition n (record { at = at; len = len }) }
+// Chunk `n` where the metadata value at a spot says that it stands.
+fn standing_by(image: &[u8], edition: Edition, n: u32, spot: Spot) -> Option<Chunk>
+    ensures { result ≡ standing_by image.now edition n spot }
 {
-    let f = line::read_fields(text::bytes_at(image, at, len));
-    let given = f.given;
-    let values = f.values;
-    if given[Fields::BLOCK] {
-        chunk::with_id(
-            chunk::stands_at(image, edition, values[Fields::BLOCK]),
-            n as u64,
-        )
-    } else {
-        Standing::Nothing
-    }
+    let fields = line::read_fields(spot.bytes(image))?;
+    let block = fields.get(Name::Block)?;
+    chunk::with_id(chunk::stands_at(image, edition, block), n as u64)
 }
 
 // Where chunk `n` stands by the answer of its lookup; `need` is what the lookup took.
-pub fn location_by(image: &[u8], edition: Edition, n: u32, f: Answer) -> Location
+pub fn location_by(
+    image: &[u8],
+    edition: Edition,
+    n: u32,
+    f: Result<Answer, Refusal>,
+) -> Result<Location, Refusal>
     ensures { result ≡ location_by image.now edition n f }
 {
-    match f {
-        Answer::Refused(r) => Location::Refused(r),
-        Answer::Absent { need: _ } => Location::Refused(Refusal::new(Refusal::NOT_LOCATED)),
-        Answer::Found { at, len, need } => {
-            let s = standing_by(image, edition, n, at, len);
-            let Standing::Stands(c) = s else {
-                return Location::Refused(Refusal::new(Refusal::NOT_LOCATED));
-            };
-            Location::At {
-                place: place_of(c),
-                need,
-            }
-        }
-    }
+    let answer = f?;
+    let Some(spot) = answer.value else {
+        return Err(Refusal::NotLocated);
+    };
+    let Some(c) = standing_by(image, edition, n, spot) else {
+        return Err(Refusal::NotLocated);
+    };
+    Ok(Location {
+        place: place_of(c),
+        need: answer.need,
+    })
 }
 
-pub fn located_by(t: Location) -> Located
-    ensures { result ≡ located_by t }
+// The place alone.
+pub fn located_by(l: Result<Location, Refusal>) -> Result<Place, Refusal>
+    ensures { result ≡ located_by l }
 {
-    match t {
-        Location::At { place, need: _ } => Located::At(place),
-        Location::Refused(r) => Located::Refused(r),
-    }
+    Ok(l?.place)
 }
 
-pub fn value_by(f: Answer) -> Value
+// The value alone.
+pub fn value_by(f: Result<Answer, Refusal>) -> Result<Option<Spot>, Refusal>
     ensures { result ≡ value_by f }
 {
-    match f {
-        Answer::Found { at, len, need: _ } => Value::At { at, len },
-        Answer::Absent { need: _ } => Value::Absent,
-        Answer::Refused(r) => Value::Refused(r),
-    }
+    Ok(f?.value)
 }
 
 // An id is 1 to 2^31-1.
-fn id_of(n: Number) -> Id
-    ensures { id_said result ≡ id_of n }
+fn id_of(n: Option<u64>) -> Result<u32, Refusal>
+    ensures { result ≡ id_of n }
 {
-    let Number::Value(v) = n else {
-        return Id::Refused(Refusal::new(Refusal::NOT_A_NUMBER));
+    let Some(v) = n else {
+        return Err(Refusal::NotANumber);
     };
     if v < 1 {
-        return Id::Refused(Refusal::new(Refusal::NOT_A_NUMBER));
+        return Err(Refusal::NotANumber);
     }
     if 2147483647 < v {
-        return Id::Refused(Refusal::new(Refusal::NOT_A_NUMBER));
+        return Err(Refusal::NotANumber);
     }
-    Id::Is(v as u32)
+    Ok(v as u32)
 }
 
 // The id that the metadata's answer gives.
-pub fn id_by(image: &[u8], f: Answer) -> Id
-    ensures { id_said result ≡ id_by image.now f }
+pub fn id_by(image: &[u8], f: Result<Answer, Refusal>) -> Result<u32, Refusal>
+    ensures { result ≡ id_by image.now f }
 {
-    match f {
-        Answer::Found { at, len, need: _ } => {
-            id_of(numeral::read_hex(text::bytes_at(image, at, len)))
-        }
-        Answer::Absent { need: _ } => Id::Refused(Refusal::new(Refusal::NO_SUCH_NAME)),
-        Answer::Refused(r) => Id::Refused(r),
+    match f?.value {
+        Some(spot) => id_of(numeral::read_hex(spot.bytes(image))),
+        None => Err(Refusal::NoSuchName),
     }
 }
 
-fn root_of(n: Number) -> Root
+// Any number of 64 bits is a position.
+fn root_of(n: Option<u64>) -> Result<Position, Refusal>
     ensures { root_said result ≡ root_of n }
 {
     match n {
-        Number::Value(v) => Root::At(Position { bits: v }),
-        Number::Bad => Root::Refused(Refusal::new(Refusal::NOT_A_NUMBER)),
+        Some(bits) => Ok(Position { bits }),
+        None => Err(Refusal::NotANumber),
     }
 }
 
 // The root that the metadata's answer gives; without an entry the map is empty.
-pub fn root_by(image: &[u8], f: Answer) -> Root
+pub fn root_by(image: &[u8], f: Result<Answer, Refusal>) -> Result<Position, Refusal>
     ensures { root_said result ≡ root_by image.now f }
 {
-    match f {
-        Answer::Found { at, len, need: _ } => {
-            root_of(numeral::read_hex(text::bytes_at(image, at, len)))
-        }
-        Answer::Absent { need: _ } => Root::At(Position {
+    match f?.value {
+        Some(spot) => root_of(numeral::read_hex(spot.bytes(image))),
+        None => Ok(Position {
             bits: Position::EMPTY,
         }),
-        Answer::Refused(r) => Root::Refused(r),
     }
 }

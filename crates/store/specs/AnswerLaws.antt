@@ -10,7 +10,7 @@ use Rattle.key.specs.Key.{Key, key_of, text, compare_keys}
 use Rattle.tree.specs.Asking.{map_lookup}
 use Rattle.locating.proofs.GateLaws.{gated_open}
 use Rattle.opening.specs.declared.Store.{Store}
-use Rattle.content.specs.Content.{Entry}
+use Rattle.content.specs.declared.Entry.{Entry}
 use Rattle.metadata.specs.declared.Location.{Location}
 use Rattle.metadata.specs.declared.Location.TheVariants as location
 use Rattle.metadata.specs.declared.Answer.{Answer}

@@ -31,7 +31,8 @@ use Rattle.content.specs.declared.Nth.{Nth}
 use Rattle.content.specs.declared.Nth.TheVariants as nth
 use Rattle.content.specs.declared.Picked.{Picked}
 use Rattle.content.specs.declared.Picked.TheVariants as picked
-use Rattle.content.specs.Content.{Entry, key_in, entries_in, positions_in, counts_in, page_of, pick, nth_of, picked_of}
+use Rattle.content.specs.declared.Entry.{Entry}
+use Rattle.content.specs.Content.{key_in, entries_in, positions_in, counts_in, page_of, pick, nth_of, picked_of}
 use Rattle.content.specs.InsideLaws.{EntryIn, page_in_lem}
 use Rattle.content.specs.PickLaws.{picked}
 use Rattle.content.specs.WholeLaws.{Whole, index_whole, total_whole}

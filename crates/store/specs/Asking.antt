@@ -16,7 +16,8 @@ use Rattle.opening.specs.declared.Store.{Store}
 use Rattle.page.specs.declared.Judged.{Judged}
 use Rattle.page.specs.declared.Judged.TheVariants as judged
 use Rattle.page.specs.Judged.{judged_at}
-use Rattle.content.specs.Content.{Entry, entries_in, positions_in, counts_in, pick}
+use Rattle.content.specs.declared.Entry.{Entry}
+use Rattle.content.specs.Content.{entries_in, positions_in, counts_in, pick}
 use Rattle.metadata.specs.declared.Value.{Value}
 use Rattle.metadata.specs.declared.Value.TheVariants as value
 use Rattle.store.specs.declared.Fetched.{Fetched}

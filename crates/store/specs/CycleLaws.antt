@@ -22,7 +22,8 @@ use Rattle.locating.proofs.StepLaws.{newest_known, ninth_refused, page_zero, pag
 use Rattle.locating.proofs.StepLaws.{page_known, empty_found, root_reached, depth_refused, descent_refused, child_reached, leaf_found}
 use Rattle.opening.specs.declared.Store.{Store}
 use Rattle.page.specs.declared.Place.{Place}
-use Rattle.content.specs.Content.{Entry, page_in}
+use Rattle.content.specs.declared.Entry.{Entry}
+use Rattle.content.specs.Content.{page_in}
 use Rattle.memory.specs.declared.Recalled.TheVariants as recalled
 use Rattle.memory.specs.Words.{recalled_in}
 use Rattle.metadata.specs.declared.Location.{Location}

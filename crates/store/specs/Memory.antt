@@ -8,7 +8,8 @@ use Rattle.position.specs.declared.Position.{Position}
 use Rattle.key.specs.declared.Kind.{Kind}
 use Rattle.key.specs.Key.{Key, key_of}
 use Rattle.opening.specs.declared.Store.{Store}
-use Rattle.content.specs.Content.{Entry, page_in}
+use Rattle.content.specs.declared.Entry.{Entry}
+use Rattle.content.specs.Content.{page_in}
 use Rattle.locating.specs.Locating.{located}
 use Rattle.locating.specs.Known.{Gated, Known, asked_in}
 use Rattle.memory.specs.Words.{Holds}

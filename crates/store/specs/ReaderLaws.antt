@@ -12,7 +12,8 @@ use Rattle.tree.specs.Page.{branch, Page, leaf, inner}
 use Rattle.tree.proofs.OutcomeLaws.{refuse_ok, bind_ok}
 use Rattle.tree.proofs.Bounds.{ReadsBelow}
 use Rattle.page.specs.declared.Place.{Place}
-use Rattle.content.specs.Content.{Entry, page_in}
+use Rattle.content.specs.declared.Entry.{Entry}
+use Rattle.content.specs.Content.{page_in}
 use Rattle.content.specs.WholeLaws.{leaf_below, inner_below}
 use Rattle.store.specs.Store.{chunk_at, reader}
 

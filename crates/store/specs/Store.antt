@@ -21,7 +21,8 @@ use Rattle.tree.specs.Asking.{map_lookup}
 use Rattle.locating.specs.Locating.{Metadata, read_at, located}
 use Rattle.opening.specs.declared.Store.{Store}
 use Rattle.page.specs.declared.Place.{Place}
-use Rattle.content.specs.Content.{Entry, page_in}
+use Rattle.content.specs.declared.Entry.{Entry}
+use Rattle.content.specs.Content.{page_in}
 use Rattle.store.specs.declared.Map.{Map}
 use Rattle.metadata.specs.Answers.{place_of, standing_by, placed_at, named_id, named_root}
 use Rattle.metadata.specs.Keys.{chunk_key, name_key, root_key}

@@ -21,7 +21,8 @@ use Rattle.tree.proofs.WalkLaws.{at_refused, at_too_deep, at_no_entry, at_entry,
 use Rattle.opening.specs.declared.Store.{Store}
 use Rattle.page.specs.declared.Judged.{Judged}
 use Rattle.page.specs.declared.Judged.TheVariants as judged
-use Rattle.content.specs.Content.{Entry, entries_in, positions_in, counts_in, keys_in, page_of}
+use Rattle.content.specs.declared.Entry.{Entry}
+use Rattle.content.specs.Content.{entries_in, positions_in, counts_in, keys_in, page_of}
 use Rattle.content.specs.WholeLaws.{Whole}
 use Rattle.cursor.specs.declared.Yield.TheVariants as yields
 use Rattle.cursor.specs.declared.follow.After.{After}

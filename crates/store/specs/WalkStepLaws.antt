@@ -13,7 +13,7 @@ use Rattle.key.specs.Key.{Key}
 use Rattle.tree.specs.Walk.{Moved, over, stop, map_next}
 use Rattle.tree.proofs.WalkLaws.{raised, length_raised, zeros_more, leftmost_at, map_empty, map_empty_numbers, map_first}
 use Rattle.opening.specs.declared.Store.{Store}
-use Rattle.content.specs.Content.{Entry}
+use Rattle.content.specs.declared.Entry.{Entry}
 use Rattle.metadata.specs.declared.Root.{Root}
 use Rattle.metadata.specs.declared.Root.TheVariants as root
 use Rattle.metadata.specs.Answers.{root_said}

@@ -8,7 +8,7 @@ use Rattle.key.specs.Key.{Key}
 use Rattle.tree.specs.Walk.{over, stop, map_next}
 use Rattle.tree.proofs.WalkLaws.{prefixed, raised, leftmost_at}
 use Rattle.opening.specs.declared.Store.{Store}
-use Rattle.content.specs.Content.{Entry}
+use Rattle.content.specs.declared.Entry.{Entry}
 use Rattle.cursor.specs.declared.Yield.TheVariants as yields
 use Rattle.cursor.specs.declared.follow.Down.{Down}
 use Rattle.cursor.specs.declared.follow.Down.TheVariants as down

@@ -12,7 +12,7 @@ use Rattle.tree.specs.Sound.{Sound}
 use Rattle.tree.specs.Walk.{Moved, map_next, Yields}
 use Rattle.tree.proofs.WalkTheorem.{Fits, next_fits, sound_yields}
 use Rattle.opening.specs.declared.Store.{Store}
-use Rattle.content.specs.Content.{Entry}
+use Rattle.content.specs.declared.Entry.{Entry}
 use Rattle.cursor.specs.declared.Walk.{Walk}
 use Rattle.cursor.specs.Walk.{zeros, fresh, formed, numbers, leading, settled, moved_by, moved_in}
 use Rattle.store.specs.Store.{reader, map_root}

@@ -23,7 +23,7 @@ use Rattle.tree.proofs.WalkLaws.{prefixed, raised, leftmost_at, next_at, map_nex
 use Rattle.tree.proofs.WalkLaws.{leftmost_deep}
 use Rattle.opening.specs.declared.Store.{Store}
 use Rattle.page.specs.declared.Judged.{Judged}
-use Rattle.content.specs.Content.{Entry}
+use Rattle.content.specs.declared.Entry.{Entry}
 use Rattle.cursor.specs.declared.follow.After.{After}
 use Rattle.cursor.specs.declared.follow.After.TheVariants as after
 use Rattle.cursor.specs.declared.follow.Down.{Down}

@@ -12,7 +12,8 @@ use Rattle.std.proofs.Common.{arith}
 use Rattle.refusal.specs.Refusal.{Outcome, too_deep}
 use Rattle.std.specs.declared.cmp.Ordering.{Ordering}
 use Rattle.tree.specs.Page.{Children, last, more, Page, leaf, inner, total}
-use Rattle.tree.specs.Examination.{Report, nothing, one_leaf, both, over, examine_children, examine_page, examine}
+use Rattle.tree.specs.declared.Report.{Report}
+use Rattle.tree.specs.Examination.{nothing, one_leaf, both, over, examine_children, examine_page, examine}
 use Rattle.tree.specs.Meets.{Filled}
 use Rattle.tree.proofs.OutcomeLaws.{refuse_ok}
 use Rattle.tree.proofs.FilledLaws.{filled_true}

@@ -7,7 +7,8 @@ use Rattle.std.specs.declared.cmp.Ordering.{Ordering}
 use Rattle.order.specs.Order.{below}
 use Rattle.tree.specs.Page.{branch, Children, last, more, separators, total}
 use Rattle.tree.specs.Asking.{child_for}
-use Rattle.tree.specs.Examination.{Report, counted, both, examine_children}
+use Rattle.tree.specs.declared.Report.{Report}
+use Rattle.tree.specs.Examination.{counted, both, examine_children}
 use Rattle.tree.specs.InnerPage.{children_of, children_from, lead, sum, examine_from}
 
 pub get_or_tail : (l : List ℕ) (i : ℕ) → get_or (drop 1 l) i 0 ≡ get_or l (suc i) 0

@@ -11,7 +11,8 @@ use Rattle.std.specs.declared.cmp.Ordering.{Ordering}
 use Rattle.order.specs.Order.{TotalOrder, Below}
 use Rattle.tree.specs.Page.{Children, last, more, Page, leaf, inner, separators, joined, All}
 use Rattle.tree.specs.Asking.{entries_page, entries}
-use Rattle.tree.specs.Examination.{Report, one_leaf, both, over, above_bound, from_bound, below_bound, separators_lie, keys_lie}
+use Rattle.tree.specs.declared.Report.{Report}
+use Rattle.tree.specs.Examination.{one_leaf, both, over, above_bound, from_bound, below_bound, separators_lie, keys_lie}
 use Rattle.tree.specs.Examination.{examine_children, examine_page, examine}
 use Rattle.tree.specs.Meets.{Filled, AboveBound, BelowBound, LeftOfBound, Within, MeetsChildren, MeetsPage, Meets}
 use Rattle.tree.proofs.ListLaws.{all_append, all_right, all_always, all_imp}

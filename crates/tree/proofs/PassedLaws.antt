@@ -5,7 +5,8 @@ use Rattle.std.proofs.Math.Bool.{and-eq-true_iff}
 use Rattle.refusal.specs.Refusal.{Outcome, bind, unsound}
 use Rattle.std.specs.declared.cmp.Ordering.{Ordering}
 use Rattle.tree.specs.Page.{Children, more, leaf, inner, separators}
-use Rattle.tree.specs.Examination.{Report, one_leaf, both, over, counted, filled, separators_lie, keys_lie, examine_children}
+use Rattle.tree.specs.declared.Report.{Report}
+use Rattle.tree.specs.Examination.{one_leaf, both, over, counted, filled, separators_lie, keys_lie, examine_children}
 use Rattle.tree.specs.Examination.{examine_page}
 use Rattle.tree.proofs.OutcomeLaws.{refuse_ok, bind_ok, branch_ok}
 

@@ -15,7 +15,8 @@ use Rattle.order.specs.Order.{TotalOrder}
 use Rattle.tree.specs.Page.{Page, nth}
 use Rattle.tree.specs.Asking.{entries, map_lookup, map_index, map_count, map_entries}
 use Rattle.tree.specs.Sound.{Sound}
-use Rattle.tree.specs.Examination.{Report, nothing, map_examine}
+use Rattle.tree.specs.declared.Report.{Report}
+use Rattle.tree.specs.Examination.{nothing, map_examine}
 use Rattle.tree.specs.Demand3.{Passes, Answers}
 use Rattle.tree.specs.Meets.{MeetsMap}
 use Rattle.tree.proofs.ListLaws.{all_always, nth_beyond, nth_element}

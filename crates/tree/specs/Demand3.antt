@@ -8,7 +8,8 @@ use Rattle.refusal.specs.Refusal.{Outcome, bad_index}
 use Rattle.std.specs.declared.cmp.Ordering.{Ordering}
 use Rattle.tree.specs.Page.{Page}
 use Rattle.tree.specs.Asking.{map_lookup, map_index, map_count, map_entries}
-use Rattle.tree.specs.Examination.{Report, map_examine}
+use Rattle.tree.specs.declared.Report.{Report}
+use Rattle.tree.specs.Examination.{map_examine}
 
 module _ {K W : Type 0} (cmp : K → K → Ordering) (read : ℕ → Outcome (Page K W)) (root : ℕ) where
   abbrev pub Passes : Type 0

@@ -11,7 +11,7 @@ use Rattle.std.specs.Prelude.{ℕ, zero, suc, ◌+◌, max, Bool, true, false, �
 use Rattle.refusal.specs.Refusal.{Outcome, bind, too_deep, unsound}
 use Rattle.std.specs.declared.cmp.Ordering.{Ordering}
 use Rattle.order.specs.Order.{below}
-pub use Rattle.tree.specs.declared.Report.{Report}
+use Rattle.tree.specs.declared.Report.{Report}
 use Rattle.tree.specs.Page.{branch, Children, last, more, Page, leaf, inner, separators}
 
 abbrev pub nothing : Report

@@ -11,7 +11,8 @@ use Rattle.refusal.specs.Refusal.{Outcome, bind}
 use Rattle.std.specs.declared.cmp.Ordering.{Ordering}
 use Rattle.order.specs.Order.{below}
 use Rattle.tree.specs.Page.{branch, Children, last, more}
-use Rattle.tree.specs.Examination.{Report, counted, both}
+use Rattle.tree.specs.declared.Report.{Report}
+use Rattle.tree.specs.Examination.{counted, both}
 
 module _ {K : Type 0} where
   abbrev pub children_of : List ℕ → List ℕ → List K → Children K

@@ -12,7 +12,7 @@ use Rattle.key.specs.Key.{Key, number, text}
 use Rattle.tree.specs.Page.{branch}
 use Rattle.tree.specs.Walk.{Moved, yield, over, stop}
 use Rattle.opening.specs.declared.View.{View}
-use Rattle.content.specs.Content.{Entry}
+use Rattle.content.specs.declared.Entry.{Entry}
 use Rattle.cursor.specs.declared.Walk.{Walk}
 use Rattle.cursor.specs.Walk.{numbers, closed, done_number, state_after, moved_by, moved_in}
 use Rattle.store.specs.Store.{reader, map_root}

@@ -11,7 +11,8 @@ use Rattle.tree.specs.Walk.{Moved, yield, over, stop}
 use Rattle.tree.proofs.WalkHoldsLaws.{Holds}
 use Rattle.opening.specs.declared.View.{View}
 use Rattle.opening.specs.declared.Store.{Store}
-use Rattle.content.specs.Content.{Entry, key_in}
+use Rattle.content.specs.declared.Entry.{Entry}
+use Rattle.content.specs.Content.{key_in}
 use Rattle.content.specs.InsideLaws.{EntryIn}
 use Rattle.cursor.specs.declared.Walk.{Walk}
 use Rattle.cursor.specs.declared.Yield.{Yield}

@@ -1,20 +1,19 @@
-use mathlib.Core.Path.{ap}
-use Rattle.metadata.specs.declared.Location.TheVariants.{Refused}
+use Rattle.refusal.proofs.Passing.{handed_up}
 use Rattle.metadata.specs.Answers.{location_by}
 use Rattle.metadata.proofs.location_by.Goals as goal
 
+pub returns-in_err-answer : goal.returns-in_err-answer
+unfolding location_by
+returns-in_err-answer c = rw c.in_err-answer.was (handed_up c.from_residual.ensures)
+
 pub returns-in_default : goal.returns-in_default
 unfolding location_by
-returns-in_default c = rw (c.in-Found.is, ← c.standing_by-s.ensures, c.in_default.is) (ap Refused c.new-in_default.ensures)
+returns-in_default c = rw (c.in_ok-answer.was, c.in_default.is)
 
-pub returns-in-Refused : goal.returns-in-Refused
+pub returns-in_default-standing_by : goal.returns-in_default-standing_by
 unfolding location_by
-returns-in-Refused c = rw c.in-Refused.is
+returns-in_default-standing_by c = rw (c.in_ok-answer.was, c.in-Some.is, ← c.standing_by.ensures, c.in_default-standing_by.is)
 
-pub returns-in-Absent : goal.returns-in-Absent
+pub returns : goal.returns
 unfolding location_by
-returns-in-Absent c = rw c.in-Absent.is (ap Refused c.new.ensures)
-
-pub returns-in-Stands : goal.returns-in-Stands
-unfolding location_by
-returns-in-Stands c = rw (c.in-Found.is, ← c.standing_by-s.ensures, c.in-Stands.is, c.place_of.ensures)
+returns c = rw (c.in_ok-answer.was, c.in-Some.is, ← c.standing_by.ensures, c.in-Some-standing_by.is, c.place_of.ensures)

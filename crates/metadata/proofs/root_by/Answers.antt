@@ -1,17 +1,17 @@
-use mathlib.Core.Path.{◌∙◌, ap}
+use Rattle.std.proofs.Common.{ap, ◌∙◌}
+use Rattle.refusal.proofs.Passing.{handed_up}
 use Rattle.numeral.specs.Hex.{hex_of}
-use Rattle.metadata.specs.Answers.{root_of}
-use Rattle.metadata.specs.Answers.{root_by}
+use Rattle.metadata.specs.Answers.{root_said, root_of, root_by}
 use Rattle.metadata.proofs.root_by.Goals as goal
 
-pub returns-in-Found : goal.returns-in-Found
+pub returns-in_err-spot : goal.returns-in_err-spot
 unfolding root_by
-returns-in-Found c = rw c.in-Found.is (c.root_of.ensures ∙ ap root_of (c.read_hex.ensures ∙ ap hex_of c.bytes_at.ensures))
+returns-in_err-spot c = rw c.in_err-spot.was (ap root_said (handed_up c.from_residual.ensures))
 
-pub returns-in-Absent : goal.returns-in-Absent
+pub returns-in-Some : goal.returns-in-Some
 unfolding root_by
-returns-in-Absent c = rw c.in-Absent.is
+returns-in-Some c = rw (c.in_ok-spot.was, c.in-Some.is) (c.root_of.ensures ∙ ap root_of (c.read_hex.ensures ∙ ap hex_of c.bytes.ensures))
 
-pub returns-in-Refused : goal.returns-in-Refused
+pub returns-in-None : goal.returns-in-None
 unfolding root_by
-returns-in-Refused c = rw c.in-Refused.is
+returns-in-None c = rw (c.in_ok-spot.was, c.in-None.is)

@@ -1,14 +1,11 @@
+use Rattle.refusal.proofs.Passing.{handed_up}
 use Rattle.metadata.specs.Answers.{value_by}
 use Rattle.metadata.proofs.value_by.Goals as goal
 
-pub returns-in-Found : goal.returns-in-Found
+pub returns-in_err-f : goal.returns-in_err-f
 unfolding value_by
-returns-in-Found c = rw c.in-Found.is
+returns-in_err-f c = rw c.in_err-f.was (handed_up c.from_residual.ensures)
 
-pub returns-in-Absent : goal.returns-in-Absent
+pub returns : goal.returns
 unfolding value_by
-returns-in-Absent c = rw c.in-Absent.is
-
-pub returns-in-Refused : goal.returns-in-Refused
-unfolding value_by
-returns-in-Refused c = rw c.in-Refused.is
+returns c = rw c.in_ok-f.was

@@ -1,29 +1,20 @@
-use native.Mathlib.Omega.{arith}
+use Rattle.refusal.proofs.Passing.{handed_up}
 use Rattle.metadata.specs.Descent.{advance_of}
-use Rattle.metadata.specs.DescentLaws.{advance_step}
 use Rattle.metadata.proofs.descent.advance_at.Goals as goal
-use Rattle.metadata.proofs.descent.advance_at.Goals.{then-need-n, else-need-n}
 
-pub returns-in-Refused : goal.returns-in-Refused
+pub returns-in_err-location : goal.returns-in_err-location
 unfolding advance_of
-returns-in-Refused c = rw c.in-Refused.is
+returns-in_err-location c = rw c.in_err-location.was (handed_up c.from_residual.ensures)
+
+pub returns-in_err-position : goal.returns-in_err-position
+unfolding advance_of
+returns-in_err-position c =
+    rw (c.in_ok-location.was, ← c.step_at.ensures, c.in_err-position.was) (handed_up c.from_residual-in_err-position.ensures)
 
 pub returns-in-Child : goal.returns-in-Child
-returns-in-Child c =
-    let a = c.args in
-    advance_step _ a.need c.if-need-n.most c.in-At.is (elim c.if-need-n.branch [ then-need-n w ↦ omega arith | else-need-n w ↦ omega arith ]) c.step_at-s.ensures c.in-Child.is
+unfolding advance_of
+returns-in-Child c = rw (c.in_ok-location.was, ← c.step_at.ensures, c.in_ok-position.was, c.in-Child.is, ← c.max-need.ensures)
 
-pub returns-in-Found : goal.returns-in-Found
-returns-in-Found c =
-    let a = c.args in
-    advance_step _ a.need c.if-need-n.most c.in-At.is (elim c.if-need-n.branch [ then-need-n w ↦ omega arith | else-need-n w ↦ omega arith ]) c.step_at-s.ensures c.in-Found.is
-
-pub returns-in-Absent : goal.returns-in-Absent
-returns-in-Absent c =
-    let a = c.args in
-    advance_step _ a.need c.if-need-n.most c.in-At.is (elim c.if-need-n.branch [ then-need-n w ↦ omega arith | else-need-n w ↦ omega arith ]) c.step_at-s.ensures c.in-Absent.is
-
-pub returns-in-Refused-s : goal.returns-in-Refused-s
-returns-in-Refused-s c =
-    let a = c.args in
-    advance_step _ a.need c.if-need-n.most c.in-At.is (elim c.if-need-n.branch [ then-need-n w ↦ omega arith | else-need-n w ↦ omega arith ]) c.step_at-s.ensures c.in-Refused-s.is
+pub returns-in-Leaf : goal.returns-in-Leaf
+unfolding advance_of
+returns-in-Leaf c = rw (c.in_ok-location.was, ← c.step_at.ensures, c.in_ok-position.was, c.in-Leaf.is, ← c.max-need.ensures)
