@@ -5,51 +5,48 @@ ghost use Rattle.store.specs.WalkWays.{EndsDown, EndsLeft};
 
 use super::Map;
 use super::read::read_page;
-use cursor::{After, Down, Leftmost, Walk, after_at, first_at, over_at};
+use cursor::{After, Down, Left, Leftmost, Walk, after_at, first_at, over_at};
 use position::Position;
 use refusal::Refusal;
 
 // The way down from the root by the state's numbers: the entry after the one that they lead to,
 // or the child under which it is the leftmost.
-pub(crate) fn down_by(image: &[u8], memory: &mut [u64], m: Map, root: Position, w: Walk) -> Down
+pub(crate) fn down_by(
+    image: &[u8],
+    memory: &mut [u64],
+    m: Map,
+    root: Position,
+    w: Walk,
+) -> Result<Down, Refusal>
     requires { (1 ≤ w.depth) × (w.depth ≤ 16) × (w.depth ≤ length w.places) × (1 ≤ root.bits) × RightWords image.now m.store memory.old }
     ensures { RightWords image.now m.store memory.new × EndsDown image.now m.store m.id m.kind (take w.depth w.places) root.bits result }
 {
-    let kind = m.kind;
-    let places = w.places;
     let mut p = root;
-    let mut level: u32 = 0;
-    let mut found: u32 = 0;
-    let mut number: u32 = 0;
-    let mut next = root;
-    while level < w.depth {
-        let i = places[level as usize];
-        let j = read_page(image, memory, m, p);
-        let a = after_at(image, kind, j, i, level + 1 == w.depth);
-        match a {
-            After::Refused(r) => return Down::Refused(r),
-            After::Entry { key, size, at, len } => {
-                return Down::Entry {
+    let mut left = None;
+    for level in 0..w.depth {
+        let i = w.places[level as usize];
+        let page = read_page(image, memory, m, p)?;
+        match after_at(image, m.kind, page, i, level + 1 == w.depth)? {
+            After::Entry(entry) => {
+                return Ok(Down::Entry {
                     level,
                     number: i + 1,
-                    key,
-                    size,
-                    at,
-                    len,
-                };
+                    entry,
+                });
             }
-            After::Over => return over_at(found, number, next),
+            After::Over => return Ok(over_at(left)),
             After::Last(position) => p = position,
             After::Child { position, after } => {
                 p = position;
-                found = level + 1;
-                number = i + 1;
-                next = after;
+                left = Some(Left {
+                    level,
+                    number: i + 1,
+                    position: after,
+                });
             }
         }
-        level += 1;
     }
-    Down::Over
+    Ok(Down::Over)
 }
 
 // The leftmost entry under the page at `p`, which `level` numbers lead to. Only the root may be an
@@ -60,37 +57,27 @@ pub(crate) fn leftmost_from(
     m: Map,
     p: Position,
     level: u32,
-) -> Leftmost
+) -> Result<Option<Leftmost>, Refusal>
     requires { (level ≤ 16) × RightWords image.now m.store memory.old }
     ensures { RightWords image.now m.store memory.new × EndsLeft image.now m.store m.id m.kind level p.bits result }
 {
-    let kind = m.kind;
     let mut q = p;
-    let mut depth = level;
-    while depth < 16 {
-        let j = read_page(image, memory, m, q);
-        let a = first_at(image, kind, j);
-        match a {
-            After::Refused(r) => return Leftmost::Refused(r),
-            After::Entry { key, size, at, len } => {
-                return Leftmost::Entry {
-                    depth: depth + 1,
-                    key,
-                    size,
-                    at,
-                    len,
-                };
+    for depth in level..16 {
+        let page = read_page(image, memory, m, q)?;
+        match first_at(image, m.kind, page) {
+            After::Entry(entry) => {
+                let depth = depth + 1;
+                return Ok(Some(Leftmost { depth, entry }));
             }
             After::Over => {
                 if depth == 0 {
-                    return Leftmost::Over;
+                    return Ok(None);
                 }
-                return Leftmost::Refused(Refusal::new(Refusal::UNSOUND));
+                return Err(Refusal::Unsound);
             }
             After::Last(position) => q = position,
             After::Child { position, after: _ } => q = position,
         }
-        depth += 1;
     }
-    Leftmost::Refused(Refusal::new(Refusal::TOO_DEEP))
+    Err(Refusal::TooDeep)
 }

@@ -1,7 +1,7 @@
 // The examination of a map: depth first, a page's own rules before its keys, its separators before its
 // children, a child before its recorded count.
 ghost use Rattle.std.specs.Prelude.{◌≤◌, ◌<◌, ◌≡◌};
-ghost use Rattle.soundness.specs.Examining.{examined_of};
+ghost use Rattle.tree.specs.Examination.{both};
 ghost use Rattle.store.specs.Memory.{RightWords};
 ghost use Rattle.store.specs.Examining.{tallied, over_children, examine_in, examined_under, examined_children, WholePage, Fits};
 
@@ -9,46 +9,41 @@ use super::Map;
 use super::read::{read_page, root_at};
 use super::room::{SMALL, few_words, many_words};
 use key::Kind;
-use metadata::Root;
 use opening::Store;
+use page::Inner;
 use position::Position;
 use refusal::Refusal;
-use rising::Bound;
-use soundness::{Examined, Inner, Part, Report, Span, child_at, part_at};
+use rising::Span;
+use soundness::{Part, child_at, part_at};
+use tree::Report;
 
 // The children examined so far, and one more.
-fn tally(r: Report, count: u64, x: Examined) -> Examined
+fn tally(r: Report, count: u64, x: Result<Report, Refusal>) -> Result<Report, Refusal>
     requires { Fits r x }
     ensures { result ≡ tallied r count x }
 {
-    match x {
-        Examined::Refused(r) => Examined::Refused(r),
-        Examined::Passed(a) => {
-            if a.entries != count {
-                return Examined::Refused(Refusal::new(Refusal::UNSOUND));
-            }
-            Examined::Passed(Report {
-                entries: r.entries + a.entries,
-                pages: r.pages + a.pages,
-                depth: if r.depth < a.depth { a.depth } else { r.depth },
-            })
-        }
+    let a = x?;
+    if a.entries != count {
+        return Err(Refusal::Unsound);
     }
+    Ok(Report {
+        entries: r.entries + a.entries,
+        pages: r.pages + a.pages,
+        depth: r.depth.max(a.depth),
+    })
 }
 
 // An inner page, from its children.
-fn over_children(x: Examined) -> Examined
+fn over_children(x: Result<Report, Refusal>) -> Result<Report, Refusal>
     requires { Fits (record { entries = 0; pages = 1; depth = 1 }) x }
     ensures { result ≡ over_children x }
 {
-    match x {
-        Examined::Refused(r) => Examined::Refused(r),
-        Examined::Passed(a) => Examined::Passed(Report {
-            entries: a.entries,
-            pages: a.pages + 1,
-            depth: a.depth + 1,
-        }),
-    }
+    let a = x?;
+    Ok(Report {
+        entries: a.entries,
+        pages: a.pages + 1,
+        depth: a.depth + 1,
+    })
 }
 
 // The page at `p` and what is under it, with `levels` levels of pages left, the page's own counted.
@@ -61,21 +56,18 @@ fn examine_page(
     span: Span,
     top: bool,
     levels: u32,
-) -> Examined
+) -> Result<Report, Refusal>
     requires { (levels ≤ 16) × RightWords image.now m.store memory.old }
     ensures { RightWords image.now m.store memory.new × (result ≡ examined_under image.now m levels top span p.bits) }
 {
     if levels == 0 {
-        return Examined::Refused(Refusal::new(Refusal::TOO_DEEP));
+        return Err(Refusal::TooDeep);
     }
-    let j = read_page(image, memory, m, p);
-    let kind = m.kind;
-    let part = part_at(image, kind, j, span, top);
-    match part {
-        Part::Done(x) => x,
-        Part::Children(page) => {
-            let x = examine_children(image, memory, m, page, span, levels - 1);
-            over_children(x)
+    let page = read_page(image, memory, m, p)?;
+    match part_at(image, m.kind, page, span, top)? {
+        Part::Leaf(report) => Ok(report),
+        Part::Children(inner) => {
+            over_children(examine_children(image, memory, m, inner, span, levels - 1))
         }
     }
 }
@@ -89,62 +81,45 @@ fn examine_children(
     page: Inner,
     span: Span,
     levels: u32,
-) -> Examined
+) -> Result<Report, Refusal>
     requires { (levels < 16) × RightWords image.now m.store memory.old × WholePage image.now m.kind page }
     ensures { RightWords image.now m.store memory.new × (result ≡ examined_children image.now m levels span page) }
 {
-    let kind = m.kind;
     let mut r = Report::none();
     let mut lo = span.lo;
-    let hi = span.hi;
     let mut counts = page.counts;
     let mut keys = page.keys;
     let mut j: u32 = 0;
     loop {
-        let c = child_at(image, kind, page, j, counts, keys, hi);
-        let right = c.hi;
-        let under = Span { lo, hi: right };
-        let at = c.position;
-        let x = examine_page(image, memory, m, at, under, false, levels);
-        let t = tally(r, c.count, x);
-        let Examined::Passed(sum) = t else {
-            return t;
-        };
+        let c = child_at(image, m.kind, page, j, counts, keys, span.hi);
+        let under = Span { lo, hi: c.hi };
+        let x = examine_page(image, memory, m, c.position, under, false, levels);
+        r = tally(r, c.count, x)?;
         if j == page.n {
-            return t;
+            return Ok(r);
         }
-        r = sum;
-        lo = right;
+        lo = c.hi;
         counts = c.counts;
         keys = c.keys;
         j += 1;
     }
 }
 
-fn examine_with(image: &[u8], memory: &mut [u64], m: Map) -> Examined
+fn examine_with(image: &[u8], memory: &mut [u64], m: Map) -> Result<Report, Refusal>
     requires { RightWords image.now m.store memory.old }
-    ensures { result ≡ examined_of (examine_in image.now m.store m.id m.kind) }
+    ensures { result ≡ examine_in image.now m.store m.id m.kind }
 {
-    let store = m.store;
-    let r = root_at(image, store, memory, m.id);
-    match r {
-        Root::Refused(r) => Examined::Refused(r),
-        Root::At(p) => {
-            if p.is_empty() {
-                return Examined::Passed(Report::none());
-            }
-            let span = Span {
-                lo: Bound::Open,
-                hi: Bound::Open,
-            };
-            examine_page(image, memory, m, p, span, true, 16)
-        }
+    let root = root_at(image, m.store, memory, m.id)?;
+    if root.is_empty() {
+        return Ok(Report::none());
     }
+    let open = Span { lo: None, hi: None };
+    examine_page(image, memory, m, root, open, true, 16)
 }
 
 // The examination of a map by its id and kind.
-pub fn examine(image: &[u8], store: Store, map: u32, kind: Kind) -> Examined
-    ensures { result ≡ examined_of (examine_in image.now store map kind) }
+pub fn examine(image: &[u8], store: Store, map: u32, kind: Kind) -> Result<Report, Refusal>
+    ensures { result ≡ examine_in image.now store map kind }
 {
     let m = Map {
         store,

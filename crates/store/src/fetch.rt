@@ -5,54 +5,40 @@ ghost use Rattle.store.specs.Store.{pages_of};
 ghost use Rattle.store.specs.Memory.{RightWords};
 ghost use Rattle.store.specs.Asking.{turn_of, fetched_of};
 
+use super::Map;
 use super::read::read_page;
-use super::{Fetched, Map};
-use content::{Nth, Picked};
+use content::Entry;
 use key::Kind;
 use page::Judged;
 use position::Position;
 use refusal::Refusal;
 
-// One page: the child to go on at with what is left of the index, or the answer.
-#[derive(Clone, Copy)]
+// One page: the child to go on at with what is left of the index, or the entry.
+#[derive(Clone, Copy, Debug, PartialEq, Eq)]
 pub enum Turn {
     Child { position: Position, rest: u64 },
-    Done(Fetched),
+    Done(Entry),
 }
 
-fn turn_at(image: &[u8], kind: Kind, j: Judged, index: u64) -> Turn
-    ensures { result ≡ turn_of image.now kind index j }
+fn turn_at(image: &[u8], kind: Kind, page: Judged, index: u64) -> Result<Turn, Refusal>
+    ensures { result ≡ turn_of image.now kind index (Ok page) }
 {
-    match j {
-        Judged::Refused(r) => Turn::Done(Fetched::Refused(r)),
-        Judged::Leaf {
-            n,
-            keys,
-            values,
-            end,
-        } => {
-            let e = content::entry(page::cut(image, end), kind, n, keys, values, index);
-            let Nth::Entry { key, size, at, len } = e else {
-                return Turn::Done(Fetched::Refused(Refusal::new(Refusal::INDEX)));
-            };
-            Turn::Done(Fetched::At { key, size, at, len })
+    match page {
+        Judged::Leaf(leaf) => {
+            let s = page::cut(image, leaf.end);
+            match content::nth_entry(s, kind, leaf, index) {
+                Some(entry) => Ok(Turn::Done(entry)),
+                None => Err(Refusal::Index),
+            }
         }
-        Judged::Inner {
-            n,
-            positions,
-            counts,
-            keys: _,
-            end,
-            total: _,
-        } => {
-            let s = page::cut(image, end);
-            let c = content::pick_child(s, n, counts, index);
-            let Picked::Child { number, rest } = c else {
-                return Turn::Done(Fetched::Refused(Refusal::new(Refusal::INDEX)));
-            };
-            Turn::Child {
-                position: content::child(s, n, positions, number),
-                rest,
+        Judged::Inner(inner) => {
+            let s = page::cut(image, inner.end);
+            match content::pick_child(s, inner, index) {
+                Some(picked) => Ok(Turn::Child {
+                    position: content::child(s, inner, picked.number),
+                    rest: picked.rest,
+                }),
+                None => Err(Refusal::Index),
             }
         }
     }
@@ -65,30 +51,24 @@ pub(crate) fn fetch_from(
     m: Map,
     root: Position,
     index: u64,
-) -> Fetched
+) -> Result<Entry, Refusal>
     requires { RightWords image.now m.store memory.old }
     ensures { result ≡ fetched_of (map_index (pages_of image.now m) index root.bits) }
 {
     if root.is_empty() {
-        return Fetched::Refused(Refusal::new(Refusal::INDEX));
+        return Err(Refusal::Index);
     }
-    let kind = m.kind;
     let mut p = root;
-    let mut rest = index;
-    let mut left: u32 = 16;
-    while 0 < left {
-        let j = read_page(image, memory, m, p);
-        let t = turn_at(image, kind, j, rest);
-        match t {
-            Turn::Child { position, rest: r } => {
+    let mut left = index;
+    for _ in 0..16 {
+        let page = read_page(image, memory, m, p)?;
+        match turn_at(image, m.kind, page, left)? {
+            Turn::Child { position, rest } => {
                 p = position;
-                rest = r;
+                left = rest;
             }
-            Turn::Done(f) => {
-                return f;
-            }
+            Turn::Done(entry) => return Ok(entry),
         }
-        left -= 1;
     }
-    Fetched::Refused(Refusal::new(Refusal::TOO_DEEP))
+    Err(Refusal::TooDeep)
 }

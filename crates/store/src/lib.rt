@@ -13,22 +13,24 @@ mod settle;
 mod walking;
 
 ghost use Rattle.std.specs.Prelude.{◌≡◌};
-ghost use Rattle.metadata.specs.Answers.{place_said, id_said, root_said};
+ghost use Rattle.metadata.specs.Answers.{root_said};
 ghost use Rattle.store.specs.Store.{metadata_map, chunk_at, named_map, map_root};
 
 pub use ask::{count, index, lookup};
 pub use examining::examine;
 use key::Kind;
 use locate::{descend, locate};
-use metadata::{Id, Located, NAME, Root, id_by, located_by, name_key};
+use metadata::{NAME, id_by, located_by, name_key};
 use opening::Store;
+use page::Place;
+use position::Position;
 use read::{asked_root, root_at};
 use refusal::Refusal;
 use room::many_words;
 pub use walking::advance;
 
 // A map that is asked: by its store, its id and its kind.
-#[derive(Clone, Copy)]
+#[derive(Clone, Copy, Debug, PartialEq, Eq)]
 pub struct Map {
     pub store: Store,
     pub id: u32,
@@ -48,54 +50,34 @@ impl Map {
     }
 }
 
-// An entry: its key and its value by place and length.
-#[derive(Clone, Copy)]
-pub enum Fetched {
-    At {
-        key: usize,
-        size: usize,
-        at: usize,
-        len: usize,
-    },
-    Refused(Refusal),
-}
-
-#[derive(Clone, Copy)]
-pub enum Counted {
-    Is(u64),
-    Refused(Refusal),
-}
-
 // How many questions may be open at once.
 pub const QUESTIONS: u32 = 8;
 
 // Where chunk `chunk` is.
-pub fn chunk_place(image: &[u8], store: Store, chunk: u32) -> Located
-    ensures { place_said result ≡ chunk_at image.now store 8 chunk }
+pub fn chunk_place(image: &[u8], store: Store, chunk: u32) -> Result<Place, Refusal>
+    ensures { result ≡ chunk_at image.now store 8 chunk }
 {
     let mut memory = many_words();
     located_by(locate(image, store, &mut memory, chunk, QUESTIONS))
 }
 
 // The id of the map that has a name.
-pub fn map_id(image: &[u8], store: Store, name: &[u8]) -> Id
-    ensures { id_said result ≡ named_map image.now store name.now }
+pub fn map_id(image: &[u8], store: Store, name: &[u8]) -> Result<u32, Refusal>
+    ensures { result ≡ named_map image.now store name.now }
 {
     if NAME < name.len() {
-        return Id::Refused(Refusal::new(Refusal::ARGUMENT));
+        return Err(Refusal::Argument);
     }
     let key = name_key(name);
-    let bytes = key.bytes;
-    let n = key.len;
     let m = Map::metadata(store);
     let root = asked_root(store);
     let mut memory = many_words();
-    let f = descend(image, &mut memory, m, root, &bytes[..n], QUESTIONS);
+    let f = descend(image, &mut memory, m, root, &key.bytes[..key.len], QUESTIONS);
     id_by(image, f)
 }
 
 // The root of the map that has an id; the metadata is map 0.
-pub fn map_root(image: &[u8], store: Store, map: u32) -> Root
+pub fn map_root(image: &[u8], store: Store, map: u32) -> Result<Position, Refusal>
     ensures { root_said result ≡ map_root image.now store map }
 {
     let mut memory = many_words();

@@ -14,35 +14,34 @@ use refusal::Refusal;
 // Where chunk `c` is. The newest is known, others may be remembered; any other is asked for in the
 // metadata, which is one more open question.
 #[cycle(descend_locate)]
-pub(crate) fn locate(image: &[u8], store: Store, memory: &mut [u64], c: u32, q: u32) -> Location
+pub(crate) fn locate(
+    image: &[u8],
+    store: Store,
+    memory: &mut [u64],
+    c: u32,
+    q: u32,
+) -> Result<Location, Refusal>
     requires { (q ≤ 8) × RightWords image.now store memory.old }
     ensures { RightWords image.now store memory.new × IsLocation image.now store q c result }
 {
     let newest = store.newest;
     if c == newest.id {
-        return Location::At {
-            place: place_of(newest),
-            need: 0,
-        };
+        let place = place_of(newest);
+        return Ok(Location { place, need: 0 });
     }
-    let r = memory::recall(memory, c);
-    if let Recalled::At { place, need } = r {
+    if let Recalled::At { place, need } = memory::recall(memory, c) {
         if q < need {
-            return Location::Refused(Refusal::new(Refusal::NINTH_QUESTION));
+            return Err(Refusal::NinthQuestion);
         }
-        return Location::At { place, need };
+        return Ok(Location { place, need });
     }
     if q == 0 {
-        return Location::Refused(Refusal::new(Refusal::NINTH_QUESTION));
+        return Err(Refusal::NinthQuestion);
     }
     let key = chunk_key(c);
-    let bytes = key.bytes;
-    let n = key.len;
     let m = Map::metadata(store);
-    let root = newest.root;
-    let f = descend(image, memory, m, root, &bytes[..n], q - 1);
-    let edition = store.edition;
-    settle(image, edition, memory, c, f)
+    let f = descend(image, memory, m, newest.root, &key.bytes[..key.len], q - 1);
+    settle(image, store.edition, memory, c, f)
 }
 
 // A lookup of `key` in the map whose root is given: one page a turn, at most 16.
@@ -54,34 +53,30 @@ pub(crate) fn descend(
     root: Position,
     key: &[u8],
     q: u32,
-) -> Answer
+) -> Result<Answer, Refusal>
     requires { (q ≤ 8) × RightWords image.now m.store memory.old }
     ensures { RightWords image.now m.store memory.new × IsAnswerIn image.now m root key.now q result }
 {
     if root.is_empty() {
-        return Answer::Absent { need: 0 };
+        return Ok(Answer {
+            value: None,
+            need: 0,
+        });
     }
-    let store = m.store;
-    let kind = m.kind;
     let mut p = root;
     let mut need: u32 = 0;
-    let mut left: u32 = 16;
-    while 0 < left {
+    for _ in 0..16 {
         if p.is_empty() {
-            return Answer::Refused(Refusal::new(Refusal::PLACE));
+            return Err(Refusal::Place);
         }
-        let l = locate(image, store, memory, p.chunk(), q);
-        let a = advance_at(image, l, need, p, m.id, kind, key);
-        match a {
+        let l = locate(image, m.store, memory, p.chunk(), q);
+        match advance_at(image, l, need, p, m.id, m.kind, key)? {
             Advance::To { position, need: n } => {
                 p = position;
                 need = n;
             }
-            Advance::Done(r) => {
-                return r;
-            }
+            Advance::Done(answer) => return Ok(answer),
         }
-        left -= 1;
     }
-    Answer::Refused(Refusal::new(Refusal::TOO_DEEP))
+    Err(Refusal::TooDeep)
 }

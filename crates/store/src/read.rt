@@ -7,7 +7,7 @@ ghost use Rattle.store.specs.Asking.{judged_by};
 
 use super::locate::{descend, locate};
 use super::{Map, QUESTIONS};
-use metadata::{Location, Root, root_by, root_key};
+use metadata::{root_by, root_key};
 use opening::Store;
 use page::Judged;
 use position::Position;
@@ -15,43 +15,45 @@ use refusal::Refusal;
 
 // The page at `p`, due for a map of a kind, as it is judged: child position 0, then location, then
 // the page's own rules.
-pub(crate) fn read_page(image: &[u8], memory: &mut [u64], m: Map, p: Position) -> Judged
+pub(crate) fn read_page(
+    image: &[u8],
+    memory: &mut [u64],
+    m: Map,
+    p: Position,
+) -> Result<Judged, Refusal>
     requires { RightWords image.now m.store memory.old }
     ensures { RightWords image.now m.store memory.new × (result ≡ judged_by image.now m.store m.id m.kind p.bits) }
 {
     if p.is_empty() {
-        return Judged::Refused(Refusal::new(Refusal::PLACE));
+        return Err(Refusal::Place);
     }
-    let store = m.store;
-    let kind = m.kind;
-    let t = locate(image, store, memory, p.chunk(), QUESTIONS);
-    match t {
-        Location::At { place, need: _ } => page::judge(image, place, p, m.id, kind),
-        Location::Refused(r) => Judged::Refused(r),
-    }
+    let l = locate(image, m.store, memory, p.chunk(), QUESTIONS)?;
+    page::judge(image, l.place, p, m.id, m.kind)
 }
 
 // The root from which maps are asked. Chunks are located by the newest chunk's.
 pub(crate) fn asked_root(store: Store) -> Position
     ensures { result.bits ≡ asked_root store }
 {
-    let newest = store.newest;
-    newest.root
+    store.newest.root
 }
 
 // The root of the map that has an id; the metadata is map 0.
-pub(crate) fn root_at(image: &[u8], store: Store, memory: &mut [u64], map: u32) -> Root
+pub(crate) fn root_at(
+    image: &[u8],
+    store: Store,
+    memory: &mut [u64],
+    map: u32,
+) -> Result<Position, Refusal>
     requires { RightWords image.now store memory.old }
     ensures { RightWords image.now store memory.new × (root_said result ≡ map_root image.now store map) }
 {
     let root = asked_root(store);
     if map == 0 {
-        return Root::At(root);
+        return Ok(root);
     }
     let key = root_key(map);
-    let bytes = key.bytes;
-    let n = key.len;
     let m = Map::metadata(store);
-    let f = descend(image, memory, m, root, &bytes[..n], QUESTIONS);
+    let f = descend(image, memory, m, root, &key.bytes[..key.len], QUESTIONS);
     root_by(image, f)
 }

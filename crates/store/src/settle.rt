@@ -5,6 +5,7 @@ ghost use Rattle.store.specs.Steps.{settled_location, settled_words};
 
 use fletcher::Edition;
 use metadata::{Answer, Location, location_by};
+use refusal::Refusal;
 
 // What the metadata's answer says of chunk `n`, which is one question more; where the chunk stands, it
 // is remembered.
@@ -13,20 +14,16 @@ pub(crate) fn settle(
     edition: Edition,
     memory: &mut [u64],
     n: u32,
-    f: Answer,
-) -> Location
+    f: Result<Answer, Refusal>,
+) -> Result<Location, Refusal>
     requires { need_of f ≤ 7 }
     ensures { (result ≡ settled_location image.now edition n f) × (memory.new ≡ settled_words n memory.old result) }
 {
-    let l = location_by(image, edition, n, f);
-    match l {
-        Location::Refused(r) => Location::Refused(r),
-        Location::At { place, need } => {
-            memory::remember(memory, n, place, need + 1);
-            Location::At {
-                place,
-                need: need + 1,
-            }
-        }
-    }
+    let l = location_by(image, edition, n, f)?;
+    let need = l.need + 1;
+    memory::remember(memory, n, l.place, need);
+    Ok(Location {
+        place: l.place,
+        need,
+    })
 }

@@ -9,9 +9,8 @@ use super::Map;
 use super::down::{down_by, leftmost_from};
 use super::read::root_at;
 use super::room::{SMALL, few_words, many_words};
-use cursor::{Down, Stepped, Walk, Yield, is_formed, left_step, numbered};
+use cursor::{Down, Stepped, Walk, is_formed, left_step, numbered};
 use key::Kind;
-use metadata::Root;
 use opening::Store;
 use position::Position;
 use refusal::Refusal;
@@ -21,40 +20,31 @@ fn advance_from(image: &[u8], memory: &mut [u64], m: Map, root: Position, w: Wal
     requires { RightWords image.now m.store memory.old }
     ensures { result ≡ settled w (moved_by (pages_of image.now m) root.bits (numbers w)) }
 {
-    if is_formed(w) {} else {
-        return w.refused(Refusal::new(Refusal::UNSOUND));
+    if !is_formed(w) {
+        return w.refused(Refusal::Unsound);
     }
     if root.is_empty() {
         return w.in_empty();
     }
     if w.depth == 0 {
-        let l = leftmost_from(image, memory, m, root, 0);
-        return left_step(w, 0, 0, l);
+        let first = leftmost_from(image, memory, m, root, 0);
+        return left_step(w, 0, 0, first);
     }
-    let places = w.places;
-    let d = down_by(image, memory, m, root, w);
-    match d {
-        Down::Entry {
+    match down_by(image, memory, m, root, w) {
+        Err(r) => w.refused(r),
+        Ok(Down::Over) => w.done(),
+        Ok(Down::Entry {
             level,
             number,
-            key,
-            size,
-            at,
-            len,
-        } => Stepped {
-            walk: numbered(places, level, number, w.depth),
-            got: Yield::Entry { key, size, at, len },
+            entry,
+        }) => Stepped {
+            walk: numbered(w.places, level, number, w.depth),
+            got: Ok(Some(entry)),
         },
-        Down::Left {
-            level,
-            number,
-            position,
-        } => {
-            let l = leftmost_from(image, memory, m, position, level + 1);
-            left_step(w, level, number, l)
+        Ok(Down::Left(left)) => {
+            let first = leftmost_from(image, memory, m, left.position, left.level + 1);
+            left_step(w, left.level, left.number, first)
         }
-        Down::Over => w.done(),
-        Down::Refused(r) => w.refused(r),
     }
 }
 
@@ -62,11 +52,9 @@ fn advance_with(image: &[u8], memory: &mut [u64], m: Map, w: Walk) -> Stepped
     requires { RightWords image.now m.store memory.old }
     ensures { result ≡ step_in image.now m.store m.id m.kind w }
 {
-    let store = m.store;
-    let r = root_at(image, store, memory, m.id);
-    match r {
-        Root::Refused(r) => w.refused(r),
-        Root::At(p) => advance_from(image, memory, m, p, w),
+    match root_at(image, m.store, memory, m.id) {
+        Err(r) => w.refused(r),
+        Ok(root) => advance_from(image, memory, m, root, w),
     }
 }
 
