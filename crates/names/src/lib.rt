@@ -13,7 +13,7 @@ ghost use Rattle.names.specs.Tree.{name_end, parts_from, clear, is_in, stopped_b
 use tree::{Search, grow, is_in, seek};
 
 // What becomes of a tree: whether the names are distinct, or it has no room for the name at `next`.
-#[derive(Clone, Copy)]
+#[derive(Clone, Copy, Debug, PartialEq, Eq)]
 enum Filled {
     Distinct(bool),
     Full { next: usize, used: usize },
@@ -53,17 +53,6 @@ fn name_end(line: &[u8], i: usize) -> usize
     to
 }
 
-// What a way that does not end at a free slot says of the name at `i`.
-fn stopped(found: Search, i: usize, used: usize) -> Filled
-    ensures { result ≡ stopped_by found i used }
-{
-    match found {
-        Search::Met => Filled::Distinct(false),
-        Search::Free(_) => Filled::Full { next: i, used },
-        Search::Deep => Filled::Full { next: i, used },
-    }
-}
-
 // A new tree of the names from `from` on, of as many as there is room for.
 fn fill(line: &[u8], from: usize, places: &mut [u16; 2048], kids: &mut [u16; 4096]) -> Filled
     requires { (from ≤ length line.now) × Room places.old kids.old }
@@ -71,12 +60,8 @@ fn fill(line: &[u8], from: usize, places: &mut [u16; 2048], kids: &mut [u16; 409
         × Filling line.now from places.new kids.new result }
 {
     kids[0] = 0;
-    let mut used = 0;
     let mut i = from;
-    loop {
-        if used == NODES {
-            return Filled::Full { next: i, used };
-        }
+    for used in 0..NODES {
         if REACH < i - from {
             return Filled::Full { next: i, used };
         }
@@ -84,17 +69,21 @@ fn fill(line: &[u8], from: usize, places: &mut [u16; 2048], kids: &mut [u16; 409
         if to == i {
             return Filled::Distinct(false);
         }
-        let found = seek(line, from, places, kids, used, &line[i..to]);
-        let Search::Free(slot) = found else {
-            return stopped(found, i, used);
+        let slot = match seek(line, from, places, kids, used, &line[i..to]) {
+            Search::Met => return Filled::Distinct(false),
+            Search::Deep => return Filled::Full { next: i, used },
+            Search::Free(slot) => slot,
         };
-        used += 1;
-        grow(places, kids, used, slot, i - from);
+        grow(places, kids, used + 1, slot, i - from);
         let end = text::find_byte(line, to, 44);
         if end == line.len() {
             return Filled::Distinct(true);
         }
         i = end + 1;
+    }
+    Filled::Full {
+        next: i,
+        used: NODES,
     }
 }
 
@@ -125,16 +114,6 @@ fn none_in(
     }
 }
 
-// The verdict that `fill` came to.
-fn told(f: Filled) -> bool
-    ensures { result ≡ distinct_by f }
-{
-    match f {
-        Filled::Distinct(r) => r,
-        Filled::Full { next: _, used: _ } => false,
-    }
-}
-
 // Whether the names of `line` are distinct, tree after tree.
 fn judge(line: &[u8], places: &mut [u16; 2048], kids: &mut [u16; 4096]) -> bool
     requires { Room places.old kids.old }
@@ -142,11 +121,11 @@ fn judge(line: &[u8], places: &mut [u16; 2048], kids: &mut [u16; 4096]) -> bool
 {
     let mut i = 0;
     loop {
-        let f = fill(line, i, places, kids);
-        let Filled::Full { next, used } = f else {
-            return told(f);
+        let (next, used) = match fill(line, i, places, kids) {
+            Filled::Distinct(distinct) => return distinct,
+            Filled::Full { next, used } => (next, used),
         };
-        if none_in(line, i, next, places, kids, used) {} else {
+        if !none_in(line, i, next, places, kids, used) {
             return false;
         }
         i = next;

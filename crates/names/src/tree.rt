@@ -5,8 +5,11 @@ ghost use Rattle.std.specs.Prelude.{◌+◌, ◌*◌, ◌≤◌, ◌<◌, ◌≡
 ghost use Rattle.text.specs.Text.{every, is_letter, same};
 ghost use Rattle.names.specs.Tree.{bit_of, name_at, sought_in, is_in};
 
+// How many nodes a name's way meets at most: two names that are not the same differ in a bit before.
+const LEVELS: usize = 97;
+
 // Where a name's way down ends: at a node of this name, at a free slot, or nowhere.
-#[derive(Clone, Copy)]
+#[derive(Clone, Copy, Debug, PartialEq, Eq)]
 pub enum Search {
     Met,
     Free(usize),
@@ -44,13 +47,9 @@ fn named_at(line: &[u8], at: usize, name: &[u8]) -> bool
 {
     let to = at + name.len();
     if line.len() < to {
-        return name.len() == 0;
+        return name.is_empty();
     }
-    if text::same_bytes(&line[at..to], name) {
-        text::letters_end(line, to) == to
-    } else {
-        false
-    }
+    text::same_bytes(&line[at..to], name) && text::letters_end(line, to) == to
 }
 
 // Where the way of `name` ends in a tree of `used` nodes.
@@ -66,9 +65,7 @@ pub(crate) fn seek(
     ensures { result ≡ sought_in line.now from places.now kids.now used name.now }
 {
     let mut slot = 0;
-    let mut left = 97;
-    while 0 < left {
-        left -= 1;
+    for d in 0..LEVELS {
         let node = wide(kids[slot]);
         if node == 0 {
             return Search::Free(slot);
@@ -79,7 +76,7 @@ pub(crate) fn seek(
         if named_at(line, from + wide(places[node]), name) {
             return Search::Met;
         }
-        slot = 2 * node + bit(name, 96 - left);
+        slot = 2 * node + bit(name, d);
     }
     Search::Deep
 }
@@ -96,12 +93,7 @@ pub(crate) fn is_in(
     requires { (used ≤ 2047) × (from + length name.now ≤ length line.now) × (every is_letter name.now ≡ true) }
     ensures { result ≡ is_in line.now from places.now kids.now used name.now }
 {
-    let found = seek(line, from, places, kids, used, name);
-    match found {
-        Search::Met => true,
-        Search::Free(_) => false,
-        Search::Deep => false,
-    }
+    matches!(seek(line, from, places, kids, used, name), Search::Met)
 }
 
 // Node `k`, for the name at `at` from the root's on, in a free slot.

@@ -1,5 +1,6 @@
 use Prim.Native.Nat.{ℕ, ◌≤◌}
 use mathlib.Core.List.{List}
+use mathlib.Core.Path.{◌≡◌}
 use native.Mathlib.Omega.{arith}
 use lib.ListN.{length}
 use Rattle.names.specs.PartsLaws.{letters_inside, letters_every, part_inside}
@@ -12,9 +13,6 @@ loop-used-init c = judging_start c.requires.0 c.requires.1
 -- the name at i, where it ends
 name_inside : {line : List ℕ} {i «to» : ℕ} → NamedAt line i «to» → i ≤ length line → «to» ≤ length line
 name_inside {line} {i} n h = letters_inside line i _ n.letters h
-
-pub returns-then-used-eq-NODES : goal.returns-then-used-eq-NODES
-returns-then-used-eq-NODES c = let j = c.loop-used.invariant in (j.room, judging_full j (omega (arith, c.if-used-eq-NODES.true, j.on)))
 
 pub overflow_sub-i : goal.overflow_sub-i
 overflow_sub-i c = omega (arith, c.loop-used.invariant.on)
@@ -36,18 +34,23 @@ slice_bounds-seek-start c = let n = named_end c.args.line.now c.loop-used.i c.na
 pub slice_bounds-seek-end : goal.slice_bounds-seek-end
 slice_bounds-seek-end c = let n = named_end c.args.line.now c.loop-used.i c.name_end-to.ensures c.if-to-i.false in name_inside n c.loop-used.invariant.inside
 
-pub seek-found-requires : goal.seek-found-requires
-seek-found-requires c =
+pub seek-requires : goal.seek-requires
+seek-requires c =
     let n = named_end c.args.line.now c.loop-used.i c.name_end-to.ensures c.if-to-i.false in
     let j = c.loop-used.invariant in
     (j.few, omega (arith, j.on, n.after, name_inside n j.inside), letters_every c.args.line.now c.loop-used.i _ n.letters)
 
-pub returns-in_default : goal.returns-in_default
-returns-in_default c =
+pub returns-in-Met : goal.returns-in-Met
+returns-in-Met c =
     let n = named_end c.args.line.now c.loop-used.i c.name_end-to.ensures c.if-to-i.false in
     let j = c.loop-used.invariant in
-    let other = judging_stopped j n c.seek-found.ensures in
-    (j.room, rw c.stopped.ensures (other (λ slot e. c.in_default.not-Free slot e)))
+    (j.room, rw c.in-Met.is at (judging_stopped j n c.seek.ensures (λ slot e. cc)))
+
+pub returns-in-Deep : goal.returns-in-Deep
+returns-in-Deep c =
+    let n = named_end c.args.line.now c.loop-used.i c.name_end-to.ensures c.if-to-i.false in
+    let j = c.loop-used.invariant in
+    (j.room, rw c.in-Deep.is at (judging_stopped j n c.seek.ensures (λ slot e. cc)))
 
 pub overflow_sub-i-in-loop-used : goal.overflow_sub-i-in-loop-used
 overflow_sub-i-in-loop-used c = omega (arith, c.loop-used.invariant.on)
@@ -56,8 +59,8 @@ pub grow-requires : goal.grow-requires
 grow-requires c =
     let n = named_end c.args.line.now c.loop-used.i c.name_end-to.ensures c.if-to-i.false in
     let j = c.loop-used.invariant in
-    let low = judging_slot j n c.seek-found.ensures c.in-Free.is in
-    let room = c.if-used-eq-NODES.false in
+    let low = judging_slot j n c.seek.ensures c.in-Free.is in
+    let room : c.loop-used.used ≡ 2047 → ⊥ = λ e. omega arith in
     let near = c.if-i-from-gt-REACH.false in
     let few = j.few in
     (omega (arith, room), omega (arith, room), omega arith)
@@ -66,8 +69,8 @@ pub returns-then-end-line : goal.returns-then-end-line
 returns-then-end-line c =
     let n = named_end c.args.line.now c.loop-used.i c.name_end-to.ensures c.if-to-i.false in
     let j = c.loop-used.invariant in
-    let room = c.if-used-eq-NODES.false in
-    let seek = c.seek-found.ensures in
+    let room : c.loop-used.used ≡ 2047 → ⊥ = λ e. omega arith in
+    let seek = c.seek.ensures in
     let free = c.in-Free.is in (
       judging_room j n seek free room c.grow.ensures.0 c.grow.ensures.1,
       judging_right j n seek free room c.grow.ensures.0 c.grow.ensures.1 c.find_byte-end.ensures c.if-end-line.true,
@@ -88,6 +91,12 @@ loop-used-smaller c =
 pub loop-used-preserved : goal.loop-used-preserved
 loop-used-preserved c =
     let n = named_end c.args.line.now c.loop-used.i c.name_end-to.ensures c.if-to-i.false in
-    let room = c.if-used-eq-NODES.false in
-    judging_on c.loop-used.invariant n c.seek-found.ensures c.in-Free.is room
+    let room : c.loop-used.used ≡ 2047 → ⊥ = λ e. omega arith in
+    judging_on c.loop-used.invariant n c.seek.ensures c.in-Free.is room
     c.grow.ensures.0 c.grow.ensures.1 c.find_byte-end.ensures c.if-end-line.false
+
+pub returns : goal.returns
+returns c =
+    let j = c.loop-used.invariant in
+    let all : c.loop-used.used ≡ 2047 = omega arith in
+    (j.room, rw all at (judging_full j (omega arith)))

@@ -3,33 +3,31 @@ use native.Mathlib.Omega.{arith}
 use Rattle.names.specs.JudgeLaws.{turning_start, turning_stopped, turning_on}
 use Rattle.names.proofs.judge.Goals as goal
 
-pub loop-next-init : goal.loop-next-init
-loop-next-init c = turning_start c.args.line.now c.requires
+pub loop-distinct-init : goal.loop-distinct-init
+loop-distinct-init c = turning_start c.args.line.now c.requires
 
-pub fill-f-requires : goal.fill-f-requires
-fill-f-requires c = (c.loop-next.invariant.inside, c.loop-next.invariant.room)
+pub fill-requires : goal.fill-requires
+fill-requires c = (c.loop-distinct.invariant.inside, c.loop-distinct.invariant.room)
 
-pub returns-in_default : goal.returns-in_default
-returns-in_default c =
-    let e = c.in_default.is in
-    rw e at c.told.ensures ∙ rw e at c.fill-f.ensures.1 ∙ c.loop-next.invariant.rest
+pub returns-in-Distinct : goal.returns-in-Distinct
+returns-in-Distinct c = rw c.in-Distinct.is at c.fill.ensures.1 ∙ c.loop-distinct.invariant.rest
 
 pub none_in-requires : goal.none_in-requires
 none_in-requires c =
-    let full = rw c.in-Full.is at c.fill-f.ensures.1 in
+    let full = rw c.in-Full.is at c.fill.ensures.1 in
     (omega (arith, full.after), full.inside, omega (arith, full.few))
 
-pub loop-next-smaller : goal.loop-next-smaller
-loop-next-smaller c =
-    let full = rw c.in-Full.is at c.fill-f.ensures.1 in
+pub loop-distinct-smaller : goal.loop-distinct-smaller
+loop-distinct-smaller c =
+    let full = rw c.in-Full.is at c.fill.ensures.1 in
     omega (arith, full.after, full.inside)
 
-pub loop-next-preserved : goal.loop-next-preserved
-loop-next-preserved c =
-    let full = rw c.in-Full.is at c.fill-f.ensures.1 in
-    turning_on c.loop-next.invariant full c.none_in.ensures c.if-none_in.true c.fill-f.ensures.0
+pub loop-distinct-preserved : goal.loop-distinct-preserved
+loop-distinct-preserved c =
+    let full = rw c.in-Full.is at c.fill.ensures.1 in
+    turning_on c.loop-distinct.invariant full c.none_in.ensures c.if-not-none_in.false c.fill.ensures.0
 
-pub returns-else-none_in : goal.returns-else-none_in
-returns-else-none_in c =
-    let full = rw c.in-Full.is at c.fill-f.ensures.1 in
-    turning_stopped c.loop-next.invariant full c.none_in.ensures c.if-none_in.false
+pub returns-then-not-none_in : goal.returns-then-not-none_in
+returns-then-not-none_in c =
+    let full = rw c.in-Full.is at c.fill.ensures.1 in
+    turning_stopped c.loop-distinct.invariant full c.none_in.ensures c.if-not-none_in.true

@@ -3,8 +3,8 @@ use lib.ListN.{length}
 use Rattle.names.specs.JudgeLaws.{Turning}
 use Rattle.names.proofs.judge.Given as goal
 
-abbrev pub invariant-loop-next : goal.invariant-loop-next
-invariant-loop-next l = Turning l.line l.places l.kids l.i
+abbrev pub invariant-loop-distinct : goal.invariant-loop-distinct
+invariant-loop-distinct l = Turning l.line l.places l.kids l.i
 
-abbrev pub decreases-loop-next : goal.decreases-loop-next
-decreases-loop-next l = length l.line - l.i
+abbrev pub decreases-loop-distinct : goal.decreases-loop-distinct
+decreases-loop-distinct l = length l.line - l.i

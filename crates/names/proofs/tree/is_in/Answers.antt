@@ -1,15 +1,19 @@
-use mathlib.Core.Path.{sym, ◌∙◌, ap}
+use mathlib.Core.Bool.{false}
+use mathlib.Core.Path.{◌≡◌, refl, sym, ◌∙◌, ap}
+use Rattle.names.specs.declared.tree.Search.{Search}
+use Rattle.names.specs.declared.tree.Search.TheVariants.{Met, Free, Deep}
 use Rattle.names.specs.Tree.{met, is_in}
 use Rattle.names.proofs.tree.is_in.Goals as goal
 
+not_met : (o : Search) → (o ≡ Met → ⊥) → met o ≡ false
+not_met Met h = absurd (h refl)
+not_met (Free slot) h = refl
+not_met Deep h = refl
+
 pub returns-in-Met : goal.returns-in-Met
 unfolding is_in
-returns-in-Met c = ap met (sym c.in-Met.is ∙ c.seek-found.ensures)
+returns-in-Met c = ap met (sym c.in-Met.is ∙ c.seek.ensures)
 
-pub returns-in-Free : goal.returns-in-Free
+pub returns-in_default : goal.returns-in_default
 unfolding is_in
-returns-in-Free c = ap met (sym c.in-Free.is ∙ c.seek-found.ensures)
-
-pub returns-in-Deep : goal.returns-in-Deep
-unfolding is_in
-returns-in-Deep c = ap met (sym c.in-Deep.is ∙ c.seek-found.ensures)
+returns-in_default c = sym (not_met c.seek.result c.in_default.not-Met) ∙ ap met c.seek.ensures
