@@ -3,7 +3,7 @@ use mathlib.Core.Path.{◌≡◌, refl, sym, ◌∙◌, ap}
 use Rattle.names.specs.declared.tree.Search.{Search}
 use Rattle.names.specs.declared.tree.Search.TheVariants.{Met, Free, Deep}
 use Rattle.names.specs.Tree.{met, is_in}
-use Rattle.names.proofs.tree.is_in.Goals as goal
+use Rattle.names.proofs.tree.NameTree.is_in.Goals as goal
 
 not_met : (o : Search) → (o ≡ Met → ⊥) → met o ≡ false
 not_met Met h = absurd (h refl)

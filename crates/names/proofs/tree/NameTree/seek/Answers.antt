@@ -3,7 +3,7 @@ use mathlib.Core.Path.{◌≡◌, sym, ap, ◌∙◌}
 use native.Mathlib.Omega.{arith}
 use Rattle.names.specs.Tree.{bit_of}
 use Rattle.names.specs.SeekLaws.{bit_small, seeking_start, seeking_none, seeking_free, seeking_off, seeking_met, seeking_on}
-use Rattle.names.proofs.tree.seek.Goals as goal
+use Rattle.names.proofs.tree.NameTree.seek.Goals as goal
 
 pub loop-d-init : goal.loop-d-init
 loop-d-init c = seeking_start _ _ _ _ _ _
@@ -12,13 +12,13 @@ pub returns-then-node-eq0 : goal.returns-then-node-eq0
 returns-then-node-eq0 c =
     seeking_free c.loop-d.invariant (omega arith) c.wide-node.ensures.0 c.if-node-eq0.true
 
-pub returns-then-used-node : goal.returns-then-used-node
-returns-then-used-node c =
+pub returns-then-self-node : goal.returns-then-self-node
+returns-then-self-node c =
     seeking_off c.loop-d.invariant (omega arith) c.wide-node.ensures.0 c.if-node-eq0.false
-    c.if-used-node.true
+    c.if-self-node.true
 
-pub overflow_add-from : goal.overflow_add-from
-overflow_add-from c =
+pub overflow_add-self : goal.overflow_add-self
+overflow_add-self c =
     let pre = c.requires in
     omega (arith, c.wide.ensures.1, pre.1)
 
@@ -31,13 +31,13 @@ pub returns-then-named_at : goal.returns-then-named_at
 returns-then-named_at c =
     let l = c.loop-d in
     let more : 0 < 97 - l.d = omega arith in
-    seeking_met l.invariant more c.wide-node.ensures.0 c.if-node-eq0.false c.if-used-node.false c.wide.ensures.0
+    seeking_met l.invariant more c.wide-node.ensures.0 c.if-node-eq0.false c.if-self-node.false c.wide.ensures.0
     (sym c.named_at.ensures ∙ c.if-named_at.true)
 
 pub overflow_add-slot : goal.overflow_add-slot
 overflow_add-slot c =
     let l = c.loop-d in
-    let u = c.if-used-node.false in
+    let u = c.if-self-node.false in
     omega (arith, u, c.requires.0, c.bit.ensures, bit_small c.args.name.now l.d)
 
 pub loop-d-preserved : goal.loop-d-preserved
@@ -48,7 +48,7 @@ loop-d-preserved c =
     let left : 97 - (l.d + 1) ≡ 97 - l.d - 1 = omega arith in
     let bit = c.bit.ensures ∙ ap (bit_of c.args.name.now) depth in
     let other = sym c.named_at.ensures ∙ c.if-named_at.false in
-    rw left (seeking_on l.invariant more c.wide-node.ensures.0 c.if-node-eq0.false c.if-used-node.false c.wide.ensures.0 other bit)
+    rw left (seeking_on l.invariant more c.wide-node.ensures.0 c.if-node-eq0.false c.if-self-node.false c.wide.ensures.0 other bit)
 
 pub returns : goal.returns
 returns c = seeking_none c.loop-d.invariant (omega arith)

@@ -1,6 +1,0 @@
-use Prim.Native.Nat.{◌-◌}
-use Rattle.names.specs.SeekLaws.{Seeking}
-use Rattle.names.proofs.tree.seek.Given as goal
-
-abbrev pub invariant-loop-d : goal.invariant-loop-d
-invariant-loop-d l = Seeking l.line l.from l.places l.kids l.used l.name l.slot (97 - l.d)
