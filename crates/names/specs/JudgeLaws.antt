@@ -90,11 +90,11 @@ module _ {line places kids : List ℕ} {from used i : ℕ} (j : Judging line fro
     found = take (to - i) (drop i line)
 
     -- a way that does not end at a free slot; that of the first name does
-    pub judging_stopped : ((slot : ℕ) → o ≡ Free slot → ⊥) → Filling line from places kids (stopped_by o i used)
+    pub judging_stopped : ((slot : ℕ) → o ≡ Free slot → ⊥) → Filling line from places kids used (stopped_by o i)
     judging_stopped taken = go o s taken
       where
         go : (x : Search) → x ≡ sought_in line from places kids used found → ((slot : ℕ) → x ≡ Free slot → ⊥) →
-            Filling line from places kids (stopped_by x i used)
+            Filling line from places kids used (stopped_by x i)
         go Met s taken =
             sym (apart_met_at (is_in line from places kids used) line i p.letters (is_in_met line from places kids used found (sym s))) ∙
             j.rest

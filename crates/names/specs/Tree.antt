@@ -11,15 +11,15 @@
 --   parts_from line i       the parts of a line from place i on
 --   clear K parts          no part's name has the property K
 --   apart K parts          the same, and the names are distinct
---   stopped_by o i used     what becomes of a tree of used nodes at the name at i, whose way does not end at a free slot
+--   stopped_by o i          what becomes of a tree at the name at i, whose way does not end at a free slot
 --   Room places kids       room for 2,047 nodes
---   Filling line from places kids f   what `fill` says of the line and the tree, by its answer f
+--   Filling line from places kids used f   what `fill` says of the line and the tree, by its answer f
 use Rattle.std.specs.Prelude.{ℕ, zero, suc, ◌+◌, ◌-◌, ◌*◌, ◌/◌, ◌%◌, ◌^◌, ◌≤◌, ◌<◌, ◌≡◌, Bool, true, false, cond, not, ◌&&◌, List, [], ◌∷◌, eqb, ltb, leb, length, get_or, drop}
 use Rattle.text.specs.Text.{span, is_letter, same, split}
 use Rattle.names.specs.declared.tree.Search.{Search}
 use Rattle.names.specs.declared.tree.Search.TheVariants.{Met, Free, Deep}
-use Rattle.names.specs.declared.Filled.{Filled}
-use Rattle.names.specs.declared.Filled.TheVariants.{Distinct, Full}
+use Rattle.names.specs.declared.tree.Filled.{Filled}
+use Rattle.names.specs.declared.tree.Filled.TheVariants.{Distinct, Full}
 use Rattle.names.specs.Names.{comma, name_of, distinct}
 
 unfoldable pub bit_of : List ℕ → ℕ → ℕ
@@ -68,14 +68,10 @@ unfoldable pub apart : (List ℕ → Bool) → List (List ℕ) → Bool
 apart K parts = clear K parts && distinct parts
 
 -- ## Answers
-abbrev pub stopped_by : Search → ℕ → ℕ → Filled
-stopped_by Met i used = Distinct false
-stopped_by (Free s) i used = Full i used
-stopped_by Deep i used = Full i used
-
-abbrev pub distinct_by : Filled → Bool
-distinct_by (Distinct r) = r
-distinct_by (Full next used) = false
+abbrev pub stopped_by : Search → ℕ → Filled
+stopped_by Met i = Distinct false
+stopped_by (Free s) i = Full i
+stopped_by Deep i = Full i
 
 pub record Room (places kids : List ℕ) : Type 0 where
   pub nodes : length places ≡ 2048
@@ -88,6 +84,6 @@ pub record FullAt (line : List ℕ) (from : ℕ) (places kids : List ℕ) (next 
   pub few : used ≤ 2047
   pub rest : apart (is_in line from places kids used) (parts_from line next) ≡ distinct (parts_from line from)
 
-abbrev pub Filling : List ℕ → ℕ → List ℕ → List ℕ → Filled → Type 0
-Filling line from places kids (Distinct r) = r ≡ distinct (parts_from line from)
-Filling line from places kids (Full next used) = FullAt line from places kids next used
+abbrev pub Filling : List ℕ → ℕ → List ℕ → List ℕ → ℕ → Filled → Type 0
+Filling line from places kids used (Distinct r) = r ≡ distinct (parts_from line from)
+Filling line from places kids used (Full next) = FullAt line from places kids next used

@@ -5,7 +5,7 @@ use Rattle.names.proofs.tree.named_at.Goals as goal
 pub returns-then-line-to : goal.returns-then-line-to
 returns-then-line-to c =
     let a = c.args in
-    named_past a.line.now a.at a.name.now _ refl c.if-line-to.true
+    c.is_empty.ensures ∙ named_past a.line.now a.at a.name.now _ refl c.if-line-to.true
 
 pub returns-then-same_bytes : goal.returns-then-same_bytes
 returns-then-same_bytes c =
@@ -19,4 +19,4 @@ pub returns-else-same_bytes : goal.returns-else-same_bytes
 returns-else-same_bytes c =
     let a = c.args in
     let bytes = sym c.same_bytes.ensures ∙ c.if-same_bytes.false in
-    named_other a.line.now a.at a.name.now _ refl c.if-line-to.false bytes
+    c.if-same_bytes.false ∙ named_other a.line.now a.at a.name.now _ refl c.if-line-to.false bytes

@@ -3,7 +3,7 @@ use Rattle.text.specs.Text.{span, is_letter}
 use native.Mathlib.Omega.{arith}
 use borrow.Author.Tests.{le-leb, lt-leb}
 use Rattle.names.specs.Tree.{name_end}
-use Rattle.names.proofs.name_end.Goals as goal
+use Rattle.names.proofs.tree.name_end.Goals as goal
 
 pub returns-then-to-i-gt16 : goal.returns-then-to-i-gt16
 unfolding name_end
