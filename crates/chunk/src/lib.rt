@@ -62,7 +62,7 @@ pub fn is_footer(c: Chunk, r: Reading) -> bool
 {
     let id = c.id as u64;
     let block = c.block as u64;
-    r.says(Name::Chunk, id) && (r.says(Name::Block, block) && r.says(Name::Version, c.version))
+    r.says(Name::Chunk, id) && r.says(Name::Block, block) && r.says(Name::Version, c.version)
 }
 
 // The chunk, if its footer stands where it ends.
