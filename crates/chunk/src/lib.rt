@@ -71,7 +71,7 @@ fn with_footer(image: &[u8], edition: Edition, c: Chunk) -> Option<Chunk>
     ensures { result ≡ footed image.now edition c }
 {
     let r = footer_line(image, edition, c.block + c.len)?;
-    if is_footer(c, r) { Some(c) } else { None }
+    is_footer(c, r).then_some(c)
 }
 
 // The chunk that the header in block `b` says, whatever its footer is.
