@@ -1,5 +1,5 @@
 -- What a reading says of a name is what its line's field of that name says.
-use Rattle.std.specs.Prelude.{ℕ, ◌<◌, ◌≡◌, refl, Bool, true, false, List, length, take, None, Option, Some, is_some, unwrap_or, option_map}
+use Rattle.std.specs.Prelude.{ℕ, ◌<◌, ◌≡◌, refl, true, false, List, length, take, None, Option, Some, is_some, unwrap_or, option_map}
 use Rattle.std.proofs.Common.{sym, ◌∙◌, ap, true≢false}
 use Rattle.line.specs.Line.{line_at}
 use Rattle.line.specs.Field.{Named}

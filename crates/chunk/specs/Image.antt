@@ -83,8 +83,11 @@ gives r name = is_some (said r name)
 abbrev pub value : Option Reading → List ℕ → ℕ
 value r name = unwrap_or (said r name) 0
 
+abbrev pub is_value : Option ℕ → ℕ → Bool
+is_value o v = is_some o && eqb (unwrap_or o 0) v
+
 abbrev pub says : Option Reading → List ℕ → ℕ → Bool
-says r name v = gives r name && eqb (value r name) v
+says r name v = is_value (said r name) v
 
 abbrev pub newline_of : Option Reading → ℕ
 newline_of None = 0

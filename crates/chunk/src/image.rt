@@ -1,7 +1,8 @@
 // The image, its blocks, and the three kinds of line that opening reads of it.
 ghost use Rattle.std.specs.Prelude.{◌*◌, ◌≤◌, ◌≡◌, length, Some};
 ghost use Rattle.line.specs.Fields.{text_of};
-ghost use Rattle.chunk.specs.Image.{block_bytes, right_blocks, said, says, plain, plain_line, summed_line, header_line, chunk_line, footer_line};
+ghost use Rattle.line.specs.Reading.{value_of};
+ghost use Rattle.chunk.specs.Image.{block_bytes, right_blocks, is_value, plain, plain_line, summed_line, header_line, chunk_line, footer_line};
 
 use fletcher::Edition;
 use line::{Fields, Line, Name};
@@ -16,14 +17,14 @@ pub struct Reading {
 impl Reading {
     // The value of a name, if it is given.
     pub fn get(self, name: Name) -> Option<u64>
-        ensures { result ≡ said (Some self) (text_of name) }
+        ensures { result ≡ value_of self.fields (text_of name) }
     {
         self.fields.get(name)
     }
 
     // Whether the name is given, with the value `v`.
     pub fn says(self, name: Name, v: u64) -> bool
-        ensures { result ≡ says (Some self) (text_of name) v }
+        ensures { result ≡ is_value (value_of self.fields (text_of name)) v }
     {
         self.get(name) == Some(v)
     }

@@ -62,7 +62,7 @@ pub fn is_footer(c: Chunk, r: Reading) -> bool
 {
     let id = c.id as u64;
     let block = c.block as u64;
-    r.says(Name::Chunk, id) && (r.says(Name::Block, block) && r.says(Name::Version, c.version))
+    r.says(Name::Chunk, id) && r.says(Name::Block, block) && r.says(Name::Version, c.version)
 }
 
 // The chunk, if its footer stands where it ends.
@@ -71,7 +71,7 @@ fn with_footer(image: &[u8], edition: Edition, c: Chunk) -> Option<Chunk>
     ensures { result ≡ footed image.now edition c }
 {
     let r = footer_line(image, edition, c.block + c.len)?;
-    if is_footer(c, r) { Some(c) } else { None }
+    is_footer(c, r).then_some(c)
 }
 
 // The chunk that the header in block `b` says, whatever its footer is.

@@ -1,3 +1,8 @@
+use mathlib.Core.Bool.{Bool, true, false, cond}
+use mathlib.Core.Path.{◌≡◌, refl, ◌∙◌}
+use Rattle.std.specs.Bool.{then_some}
+use Rattle.std.specs.Prelude.{Some, None}
+use Rattle.chunk.specs.declared.Chunk.{Chunk}
 use Rattle.chunk.specs.Chunk.{footer_of, footed}
 use Rattle.chunk.proofs.with_footer.Goals as goal
 
@@ -5,10 +10,11 @@ pub returns-in_err-r : goal.returns-in_err-r
 unfolding footed footer_of
 returns-in_err-r c = rw (← c.footer_line.ensures, c.in_err-r.was) c.from_residual.ensures
 
-pub returns-then-is_footer : goal.returns-then-is_footer
-unfolding footed
-returns-then-is_footer c = rw (← c.footer_line.ensures, c.in_ok-r.was, ← c.is_footer.ensures, c.if-is_footer.true)
+chosen : (b : Bool) (c : Chunk) → then_some b c ≡ cond b (Some c) None
+chosen true c = refl
+chosen false c = refl
 
-pub returns-else-is_footer : goal.returns-else-is_footer
+pub returns : goal.returns
 unfolding footed
-returns-else-is_footer c = rw (← c.footer_line.ensures, c.in_ok-r.was, ← c.is_footer.ensures, c.if-is_footer.false)
+returns c =
+    rw (← c.footer_line.ensures, c.in_ok-r.was, ← c.is_footer.ensures) (c.then_some.ensures ∙ chosen c.is_footer.result c.args.c)
