@@ -8,14 +8,12 @@
 --   settled w m            the step from w when m is next: that state, and the answer `yield_by m`
 --   moved_by read root is  what is next after the numbers of a state, in the map whose root is given
 use Rattle.std.specs.Prelude.{ℕ, ◌-◌, Bool, true, ◌&&◌, List, [], ◌∷◌, ◌++◌, eqb, leb, length, take, drop, replicate, Err, None, Ok, Option, Some}
-use Rattle.refusal.specs.Refusal.{Outcome, unsound}
+use Rattle.refusal.specs.Refusal.{Outcome, number_of, unsound}
 use Rattle.key.specs.Key.{Key}
 use Rattle.tree.specs.Page.{branch, Page}
 use Rattle.tree.specs.Walk.{Moved, yield, over, stop, map_next}
 use Rattle.content.specs.declared.Entry.{Entry}
 use Rattle.cursor.specs.declared.Walk.{Walk}
-use Rattle.cursor.specs.declared.Yield.{Yield}
-use Rattle.cursor.specs.declared.Yield.TheVariants as yields
 use Rattle.cursor.specs.declared.Stepped.{Stepped}
 
 abbrev pub zeros : List ℕ → Bool
@@ -43,19 +41,19 @@ leading is = record { places = is ++ replicate (16 - length is) 0; depth = lengt
 abbrev pub closed : Walk → ℕ → Walk
 closed w n = record { places = w.places; depth = w.depth; last = n }
 
-abbrev pub yield_of : Key × Entry → Yield
-yield_of e = yields.Entry e.1.key.at e.1.key.len e.1.value.at e.1.value.len
+abbrev pub yield_of : Key × Entry → Outcome (Option Entry)
+yield_of e = Ok (Some e.1)
 
 -- "Done or a refusal keeps places and depth, is recorded"
 abbrev pub state_after : Walk → Moved (Key × Entry) → Walk
 state_after w (yield e i is) = leading (i ∷ is)
 state_after w over = closed w done_number
-state_after w (stop r) = closed w r.number
+state_after w (stop r) = closed w (number_of r)
 
-abbrev pub yield_by : Moved (Key × Entry) → Yield
+abbrev pub yield_by : Moved (Key × Entry) → Outcome (Option Entry)
 yield_by (yield e i is) = yield_of e
-yield_by over = yields.Done
-yield_by (stop r) = yields.Refused r
+yield_by over = Ok None
+yield_by (stop r) = Err r
 
 unfoldable pub settled : Walk → Moved (Key × Entry) → Stepped
 settled w m = record { walk = state_after w m; got = yield_by m }

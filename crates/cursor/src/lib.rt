@@ -3,39 +3,31 @@
 
 mod follow;
 
-ghost use Rattle.std.specs.Prelude.{◌≡◌, true, drop, length};
-ghost use Rattle.cursor.specs.Walk.{zeros, formed, closed, fresh, done_number};
+ghost use Rattle.std.specs.Prelude.{◌≡◌, true, length, Ok, Err, None};
+ghost use Rattle.refusal.specs.Refusal.{number_of};
+ghost use Rattle.cursor.specs.Walk.{formed, closed, fresh, done_number};
 ghost use Rattle.cursor.specs.Steps.{empty_step, numbered, left_step};
 
-pub use follow::{After, Down, Leftmost, after_at, first_at, over_at};
+use content::Entry;
+pub use follow::{After, Down, Left, Leftmost, after_at, first_at, over_at};
 use refusal::Refusal;
 
 // Child numbers from the root on and, last, the number of the entry last yielded; how many they are;
 // and the last answer's number: 0 for going on, `DONE`, or a refusal's.
+// The C interface hands it over, so that it is laid out as in C and its answer is a number.
 #[repr(C)]
-#[derive(Clone, Copy)]
+#[derive(Clone, Copy, Debug, PartialEq, Eq)]
 pub struct Walk {
     pub places: [u32; 16],
     pub depth: u32,
     pub last: u32,
 }
 
-#[derive(Clone, Copy)]
-pub enum Yield {
-    Entry {
-        key: usize,
-        size: usize,
-        at: usize,
-        len: usize,
-    },
-    Done,
-    Refused(Refusal),
-}
-
-#[derive(Clone, Copy)]
+// A step: the state after it, and the entry that it yields, nothing where the walk is done, or a refusal.
+#[derive(Clone, Copy, Debug, PartialEq, Eq)]
 pub struct Stepped {
     pub walk: Walk,
-    pub got: Yield,
+    pub got: Result<Option<Entry>, Refusal>,
 }
 
 impl Walk {
@@ -56,31 +48,26 @@ impl Walk {
     fn closed(self, last: u32) -> Self
         ensures { result ≡ closed self last }
     {
-        let places = self.places;
-        Walk {
-            places,
-            depth: self.depth,
-            last,
-        }
+        Walk { last, ..self }
     }
 
     // Done, recorded.
     pub fn done(self) -> Stepped
-        ensures { result ≡ record { walk = closed self done_number; got = Yield.Done } }
+        ensures { result ≡ record { walk = closed self done_number; got = Ok None } }
     {
         Stepped {
             walk: self.closed(Walk::DONE),
-            got: Yield::Done,
+            got: Ok(None),
         }
     }
 
     // A refusal, recorded.
     pub fn refused(self, r: Refusal) -> Stepped
-        ensures { result ≡ record { walk = closed self r.number; got = Yield.Refused r } }
+        ensures { result ≡ record { walk = closed self (number_of r); got = Err r } }
     {
         Stepped {
-            walk: self.closed(r.number as u32),
-            got: Yield::Refused(r),
+            walk: self.closed(r.number() as u32),
+            got: Err(r),
         }
     }
 
@@ -91,36 +78,18 @@ impl Walk {
         if self.depth == 0 {
             return self.done();
         }
-        self.refused(Refusal::new(Refusal::UNSOUND))
+        self.refused(Refusal::Unsound)
     }
-}
-
-// Whether the places from `d` on are 0. A caller learns that there are 16.
-fn rest_zero(places: [u32; 16], d: usize) -> bool
-    ensures { (result ≡ zeros (drop d places)) × (length places ≡ 16) }
-{
-    let mut i = d;
-    while i < 16 {
-        if places[i] != 0 {
-            return false;
-        }
-        i += 1;
-    }
-    true
 }
 
 // Whether the state is formed as it must be. A caller learns that a formed one has 16 places.
 pub fn is_formed(w: Walk) -> bool
     ensures { (result ≡ formed w) × (result ≡ true → length w.places ≡ 16) }
 {
-    if w.last != 0 {
+    if w.last != 0 || 16 < w.depth {
         return false;
     }
-    if 16 < w.depth {
-        return false;
-    }
-    let places = w.places;
-    rest_zero(places, w.depth as usize)
+    w.places[w.depth as usize..].iter().all(|&place| place == 0)
 }
 
 // The state with the numbers before place `l`, then `n`, then zeros; with the places as they are where
@@ -128,20 +97,12 @@ pub fn is_formed(w: Walk) -> bool
 pub fn numbered(from: [u32; 16], l: u32, n: u32, depth: u32) -> Walk
     ensures { result ≡ numbered from l n depth }
 {
-    if 16 <= l {
-        return Walk {
-            places: from,
-            depth,
-            last: 0,
-        };
+    let mut places = from;
+    if l < 16 {
+        let l = l as usize;
+        places[l] = n;
+        places[l + 1..].fill(0);
     }
-    let mut places = [0u32; 16];
-    let mut i = 0;
-    while i < l as usize {
-        places[i] = from[i];
-        i += 1;
-    }
-    places[l as usize] = n;
     Walk {
         places,
         depth,
@@ -150,24 +111,15 @@ pub fn numbered(from: [u32; 16], l: u32, n: u32, depth: u32) -> Walk
 }
 
 // The step to the leftmost entry under the page that place `l` with number `n` leads to.
-pub fn left_step(w: Walk, l: u32, n: u32, m: Leftmost) -> Stepped
+pub fn left_step(w: Walk, l: u32, n: u32, m: Result<Option<Leftmost>, Refusal>) -> Stepped
     ensures { result ≡ left_step w l n m }
 {
     match m {
-        Leftmost::Entry {
-            depth,
-            key,
-            size,
-            at,
-            len,
-        } => {
-            let places = w.places;
-            Stepped {
-                walk: numbered(places, l, n, depth),
-                got: Yield::Entry { key, size, at, len },
-            }
-        }
-        Leftmost::Over => w.done(),
-        Leftmost::Refused(r) => w.refused(r),
+        Ok(Some(leftmost)) => Stepped {
+            walk: numbered(w.places, l, n, leftmost.depth),
+            got: Ok(Some(leftmost.entry)),
+        },
+        Ok(None) => w.done(),
+        Err(r) => w.refused(r),
     }
 }

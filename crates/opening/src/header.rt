@@ -7,7 +7,7 @@ use fletcher::Edition;
 use line::Fields;
 
 // What a good file header copy says of the newest chunk.
-#[derive(Clone, Copy)]
+#[derive(Clone, Copy, Debug, PartialEq, Eq)]
 pub enum Copy {
     Names {
         block: u64,

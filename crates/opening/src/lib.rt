@@ -16,21 +16,21 @@ use refusal::Refusal;
 
 // How an image is opened, as a caller says it: 1 or 2 is an edition, any other number is none.
 #[repr(C)]
-#[derive(Clone, Copy)]
+#[derive(Clone, Copy, Debug, PartialEq, Eq)]
 pub struct View {
     pub edition: u64,
 }
 
 // A store that is open: the edition in which its lines are judged, and its newest chunk, which says
 // where chunks stand.
-#[derive(Clone, Copy)]
+#[derive(Clone, Copy, Debug, PartialEq, Eq)]
 pub struct Store {
     pub edition: Edition,
     pub newest: Chunk,
 }
 
 // The newest chunk, or why the image does not open.
-#[derive(Clone, Copy)]
+#[derive(Clone, Copy, Debug, PartialEq, Eq)]
 pub enum Opened {
     Newest(Chunk),
     Refused(Refusal),

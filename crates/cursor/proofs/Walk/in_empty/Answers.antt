@@ -8,5 +8,4 @@ returns-then-self-eq0 c = rw (c.done.ensures, eq-eqb c.args.self.depth 0 c.if-se
 
 pub returns : goal.returns
 unfolding empty_step
-returns c =
-    rw (c.refused.ensures, c.new.ensures, ne_eqb c.args.self.depth 0 c.if-self-eq0.false)
+returns c = rw (c.refused.ensures, ne_eqb c.args.self.depth 0 c.if-self-eq0.false)

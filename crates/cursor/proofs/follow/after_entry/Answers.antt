@@ -1,36 +1,21 @@
-use Prim.Native.Nat.{◌+◌}
-use mathlib.Core.Path.{sym, ◌∙◌}
-use native.Mathlib.Omega.{arith}
+use mathlib.Core.Path.{ap}
+use Rattle.std.proofs.Common.{Ok}
 use borrow.Author.Tests.{le-leb, lt-leb}
 use Rattle.cursor.specs.Steps.{after_of}
-use Rattle.cursor.specs.EntryLaws.{entry_there, entry_out_lem}
+use Rattle.cursor.specs.EntryLaws.{entry_or_over}
+use Rattle.cursor.proofs.follow.after_entry.Goals.{then-not-last-via-then-not-last, then-not-last-via-else-not-last+then-leaf-i}
 use Rattle.cursor.proofs.follow.after_entry.Goals as goal
 
-pub returns-else-last : goal.returns-else-last
+pub returns-then-not-last : goal.returns-then-not-last
 unfolding after_of
-returns-else-last c = rw (c.if-last.false, c.new.ensures)
+returns-then-not-last c =
+    elim c.then-not-last.branch [
+      | then-not-last-via-then-not-last b ↦ rw b.if-not-last.true
+      | then-not-last-via-else-not-last+then-leaf-i b ↦ rw (b.if-not-last.false, le-leb c.args.leaf.n c.args.i b.if-leaf-i.true)
+    ]
 
-pub returns-then-n-i : goal.returns-then-n-i
+pub returns : goal.returns
 unfolding after_of
-returns-then-n-i c = rw (c.if-last.true, le-leb _ _ c.if-n-i.true, c.new-then-n-i.ensures)
-
-pub returns-in-Entry : goal.returns-in-Entry
-unfolding after_of
-returns-in-Entry c =
-    let a = c.args in
-    let if1 = c.if-last in
-    let cut = c.cut in
-    let entry = c.entry-e in
-    rw (if1.true, lt-leb a.n a.i (omega arith))
-    (entry_there a.image.now a.kind a.n a.keys a.values a.end (a.i + 1) _ cut.ensures (sym entry.ensures ∙ c.in-Entry.is))
-
-pub returns-in-Out : goal.returns-in-Out
-unfolding after_of
-returns-in-Out c =
-    let a = c.args in
-    let if1 = c.if-last in
-    let cut = c.cut in
-    let entry = c.entry-e in
-    rw (if1.true, lt-leb a.n a.i (omega arith))
-    (entry_out_lem a.image.now a.kind a.n a.keys a.values a.end (a.i + 1) _ cut.ensures
-    (sym entry.ensures ∙ c.in-Out.is))
+returns c =
+    rw (c.if-not-last.false, lt-leb c.args.leaf.n c.args.i c.if-leaf-i.false, ← c.cut-s.ensures)
+    (ap Ok (entry_or_over _ c.nth_entry-next.ensures c.map_or.ensures))
