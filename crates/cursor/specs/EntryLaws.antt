@@ -1,16 +1,8 @@
 -- A law of an entry by its number, as the code reads it.
 use Rattle.std.specs.Prelude.{◌≡◌, Option, Some, None, option_map, MatchOption}
 use Rattle.key.specs.Key.{Key}
-<<<<<<< HEAD
-use Rattle.page.specs.declared.Judged.{Judged}
-use Rattle.page.specs.declared.Judged.TheVariants as judged
-use Rattle.content.specs.declared.Nth.TheVariants as nth
-use Rattle.content.specs.declared.Entry.{Entry}
-use Rattle.content.specs.Content.{entries_in, nth_of}
-=======
 use Rattle.content.specs.declared.Entry.{Entry}
 use Rattle.cursor.specs.declared.follow.After.{After}
->>>>>>> 58a08cb3a8fa044528c264b653f5b3a06e7eadbb
 use Rattle.cursor.specs.declared.follow.After.TheVariants as after
 use Rattle.cursor.specs.Steps.{entry_after}
 
