@@ -1,7 +1,7 @@
 -- Laws of the public answers: what was told or sought with 8 questions is what the definitions say.
 use Rattle.std.specs.Prelude.{ℕ, ◌≤◌, ◌<◌, ◌≡◌, List, length, Err, None, Ok, Option, Some, option_map}
-use Rattle.std.proofs.Math.Path.{refl, sym}
-use Rattle.std.proofs.Common.{ap, ◌∙◌, eq-eqb, ne_eqb, lt-ltb, le-ltb}
+use Rattle.std.proofs.Math.Path.{sym}
+use Rattle.std.proofs.Common.{ap, eq-eqb, ne_eqb, lt-ltb, le-ltb}
 use Rattle.refusal.specs.Refusal.{Outcome, bind, bad_argument}
 use Rattle.key.specs.declared.Kind.{Kind}
 use Rattle.key.specs.declared.Kind.TheVariants.{Text}

@@ -3,9 +3,9 @@
 --   tells-X           what locating a chunk tells
 --   sought-X, came-X  what a descent answers; where it has come to
 use Prim.Native.Nat.{ℕ, zero, suc, ◌-◌, ◌≤◌, ◌<◌, max}
-use Rattle.std.specs.Prelude.{◌≡◌, List, Err, None, Ok, Option, Some, option_map}
+use Rattle.std.specs.Prelude.{◌≡◌, List, Err, None, Ok}
 use Rattle.std.proofs.Math.Path.{refl}
-use Rattle.std.proofs.Common.{◌∙◌, ap}
+use Rattle.std.proofs.Common.{◌∙◌}
 use native.Mathlib.Omega.{arith}
 use Rattle.refusal.specs.declared.Refusal.{Refusal}
 use Rattle.refusal.specs.Refusal.{Outcome, bind, ninth_question, out_of_place, too_deep}
@@ -16,8 +16,8 @@ use Rattle.key.specs.Key.{Key, key_of, compare_keys}
 use Rattle.position.specs.Position.{chunk_of}
 use Rattle.tree.specs.Page.{Page, leaf, inner}
 use Rattle.tree.specs.Asking.{find_in}
-use Rattle.locating.specs.Known.{Gated, Known, read_with, asked_in, CameTo}
-use Rattle.locating.proofs.GateLaws.{gated_open, gated_shut, gated_zero, gated_same}
+use Rattle.locating.specs.Known.{Known, read_with, CameTo}
+use Rattle.locating.proofs.GateLaws.{gated_open, gated_shut, gated_zero}
 use Rattle.locating.proofs.StepLaws.{newest_known, ninth_refused, page_zero, page_refused}
 use Rattle.locating.proofs.StepLaws.{page_known, empty_found, root_reached, depth_refused, descent_refused, child_reached, leaf_found}
 use Rattle.opening.specs.declared.Store.{Store}
@@ -121,10 +121,10 @@ module _ (image : List ℕ) (store : Store) where
         page_advanced (Err r) i =
             refused_advanced r (gated_open (page_known (metadata image store) (λ l p. page_in image l p map kind) other d) q h ∙ i)
         page_advanced (Ok (leaf es)) i = (
-            find_in compare_keys k es,
-            refl,
-            omega (arith, a.enough),
-            leaf_found (metadata image store) (λ l p. page_in image l p map kind) root k p left a.came other d i,
+          find_in compare_keys k es,
+          refl,
+          omega (arith, a.enough),
+          leaf_found (metadata image store) (λ l p. page_in image l p map kind) root k p left a.came other d i,
         )
         page_advanced (Ok (inner cs)) i =
             record {
