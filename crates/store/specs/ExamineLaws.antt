@@ -28,7 +28,7 @@ use Rattle.page.specs.declared.Judged.TheVariants as judged
 use Rattle.page.specs.declared.Leaf.{Leaf}
 use Rattle.page.specs.declared.Inner.{Inner}
 use Rattle.content.specs.Content.{keys_in, positions_in, counts_in, entries_in, page_of}
-use Rattle.content.specs.WholeLaws.{Whole, LeafWhole, InnerWhole, children_in, keys_whole}
+use Rattle.content.specs.WholeLaws.{Whole, LeafWhole, children_in, keys_whole}
 use Rattle.rising.specs.declared.Span.{Span}
 use Rattle.rising.specs.Rising.{bound_key}
 use Rattle.metadata.specs.Answers.{root_said}

@@ -1,5 +1,4 @@
 use native.Mathlib.Omega.{arith}
-use Rattle.std.proofs.Common.{◌∙◌, ap}
 use Rattle.refusal.proofs.Passing.{handed_up}
 use Rattle.store.specs.Examining.{over_children}
 use Rattle.store.specs.TallyLaws.{fits_passed}
