@@ -25,16 +25,19 @@ pub struct Item {
 pub fn item_at(image: &[u8], kind: Kind, entry: Entry) -> Item
     ensures { result ≡ item_at image.now kind entry }
 {
-    let key = match kind {
+    let value = entry.value;
+    match kind {
         Kind::Number => {
             let bits = numeral::be64(entry.key.bytes(image), 0);
-            Key::Number(bits.cast_signed())
+            Item {
+                key: Key::Number(bits.cast_signed()),
+                value,
+            }
         }
-        Kind::Text => Key::Text(entry.key),
-    };
-    Item {
-        key,
-        value: entry.value,
+        Kind::Text => Item {
+            key: Key::Text(entry.key),
+            value,
+        },
     }
 }
 
