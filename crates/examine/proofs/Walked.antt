@@ -1,6 +1,6 @@
 -- Beside demand 3: over a map that the examination passes, a walk from the fresh state yields the entry list in order, one entry a
 -- step, and then Done, which is given again.
-use Rattle.std.specs.Prelude.{ℕ, ◌≡◌}
+use Rattle.std.specs.Prelude.{ℕ, ◌≡◌, Ok, Err, None, Some, Option}
 use Rattle.std.proofs.Math.Path.{refl, sym}
 use Rattle.std.proofs.Common.{◌∙◌, ap, true≢false, arith}
 use mathlib.Core.List.{List, [], ◌∷◌}
@@ -11,7 +11,7 @@ use Rattle.opening.specs.declared.View.{View}
 use Rattle.content.specs.declared.Entry.{Entry}
 use Rattle.content.specs.Content.{key_in}
 use Rattle.cursor.specs.declared.Walk.{Walk}
-use Rattle.cursor.specs.declared.Yield.TheVariants as yields
+use Rattle.refusal.specs.Refusal.{Outcome}
 use Rattle.cursor.specs.declared.Stepped.{Stepped}
 use Rattle.cursor.specs.Walk.{fresh, closed, done_number, yield_of, settled}
 use Rattle.store.specs.AskLaws.{entries_key}
@@ -28,11 +28,11 @@ going_on : (w v : Walk) (e : Key × Entry) (m : Moved (Key × Entry)) → settle
 unfolding settled
 going_on w v e (yield x i is) h = sym (ap (λ (s : Stepped). s.walk.last) h)
 going_on w v e over h =
-    let got : yields.Done ≡ yield_of e = ap (λ (s : Stepped). s.got) h in
-    absurd (true≢false cc)
+    let got : Ok None ≡ yield_of e = ap (λ (s : Stepped). s.got) h in
+    cc
 going_on w v e (stop r) h =
-    let got : yields.Refused r ≡ yield_of e = ap (λ (s : Stepped). s.got) h in
-    absurd (true≢false cc)
+    let got : Err r ≡ yield_of e = ap (λ (s : Stepped). s.got) h in
+    cc
 
 module _ {image : List ℕ} {view : View} {map kind : ℕ} (m : Map image view map kind) where
   -- the call is the step in the open store, with the key read at its place

@@ -25,17 +25,14 @@ use Rattle.opening.specs.declared.Store.{Store}
 use Rattle.item.specs.Item.{Spot}
 use Rattle.content.specs.declared.Entry.{Entry}
 use Rattle.content.specs.Content.{key_in}
-use Rattle.metadata.specs.declared.Value.{Value}
-use Rattle.metadata.specs.declared.Value.TheVariants as value
 use Rattle.store.specs.Store.{named_map}
 use Rattle.store.specs.Asking.{lookup_in, index_in, value_of, fetched_of}
 use Rattle.store.specs.AskLaws.{lookup_inside, index_key}
 use Rattle.viewing.specs.Viewing.{opened_store}
-use Rattle.map.specs.declared.Target.{Target}
-use Rattle.map.specs.declared.Target.TheVariants as target
-use Rattle.map.specs.declared.entry.Item.TheVariants as item
+use Rattle.map.specs.declared.entry.Item.{Item}
+use Rattle.map.specs.declared.entry.Key.TheVariants as given
 use Rattle.map.specs.Map.{asked_map, keyed, well_named, asking, lookup_of, fitting, copy_of, named_of}
-use Rattle.map.specs.Map.{asked_said, item_of, item_at, item_by, area_after}
+use Rattle.map.specs.Map.{item_of, item_at, item_by, area_after}
 
 -- ## An id and a kind
 module _ (map : ℕ) where
@@ -134,35 +131,24 @@ module _ (name : List ℕ) where
       unfolding named_of named_map
       named_open f = rw (named_room well, well, f)
 
--- ## By what `asked` said
-module _ (map kind : ℕ) (t : Target) (e : asked_said t ≡ asked_map map kind) where
-  pub asked_refused : {r : Refusal} → t ≡ target.Refused r → asked_map map kind ≡ Err r
-  asked_refused f = sym e ∙ ap asked_said f
-
-  pub asked_told : {id : ℕ} {k : Kind} → t ≡ target.Map id k → asked_map map kind ≡ Ok (id, k)
-  asked_told f = sym e ∙ ap asked_said f
-
 pub asking_told : {A : Type 0} (image : List ℕ) (view : View) (ask : Store → ℕ → Kind → Outcome A) {o : Outcome (ℕ × Kind)} {x : ℕ × Kind} → o ≡ Ok x
     → asking (Ok x) image view ask ≡ asking o image view ask
 asking_told image view ask e = ap (λ o. asking o image view ask) (sym e)
 
 -- ## Entries
-module _ (image : List ℕ) (kind : Kind) (key size at len : ℕ) where
-  abbrev there : Entry
-  there = record { key = record { at = key; len = size }; value = record { at = at; len = len } }
-
+module _ (image : List ℕ) (kind : Kind) (e : Entry) where
   pub item_number : kind ≡ Number → {z : ℤ} {bits : ℕ} {s : List ℕ} → z ≡ to_z w64 bits → bits ≡ big_endian_at 8 s 0
-      → s ≡ take size (drop key image) → item.Number z at len ≡ item_at image kind there
+      → s ≡ take e.key.len (drop e.key.at image) → record { key = given.Number z; value = e.value } ≡ item_at image kind e
   unfolding item_at key_in key_of
-  item_number e a b c = rw (e, a, b, c)
+  item_number k a b c = rw (k, a, b, c)
 
-  pub item_text : kind ≡ Text → item.Text key size at len ≡ item_at image kind there
+  pub item_text : kind ≡ Text → record { key = given.Text e.key; value = e.value } ≡ item_at image kind e
   unfolding item_at key_in key_of
-  item_text e = rw e
+  item_text k = rw k
 
 pub item_fetched : (image : List ℕ) (store : Store) (map : ℕ) (kind : Kind) (i : ℕ)
     → item_by image kind (fetched_of (index_in image store map kind i)) ≡ item_of (index_in image store map kind i)
-unfolding item_by item_of item_at fetched_of key_in
+unfolding item_of item_at fetched_of key_in
 item_fetched image store map kind i = go (index_in image store map kind i) refl
   where
     go : (o : Outcome (Key × Entry)) → index_in image store map kind i ≡ o → item_by image kind (fetched_of o) ≡ item_of o
@@ -191,66 +177,61 @@ asking_inside image view (Ok x) k e h = go (opened_store image view) h
     go (Ok s) h = lookup_inside image s x.0 x.1 (k x.1) e h
 
 -- the entry of a value that is given by its place
-pub record Looked (o : Outcome (Option Entry)) (at len : ℕ) : Type 0 where
+pub record Looked (o : Outcome (Option Entry)) (v : Spot) : Type 0 where
   pub entry : Entry
   pub found : o ≡ Ok (Some entry)
-  pub place : entry.value ≡ record { at = at; len = len }
+  pub place : entry.value ≡ v
 
-abbrev place_of : Value → Spot
-place_of (value.At at len) = record { at = at; len = len }
-place_of value.Absent = record { at = 0; len = 0 }
-place_of (value.Refused r) = record { at = 0; len = 0 }
-
-looked : (o : Outcome (Option Entry)) {at len : ℕ} → value_of o ≡ value.At at len → Looked o at len
+looked : (o : Outcome (Option Entry)) {v : Spot} → value_of o ≡ Ok (Some v) → Looked o v
 unfolding value_of
-looked (Err r) v = absurd (true≢false cc)
-looked (Ok None) v = absurd (true≢false cc)
-looked (Ok (Some e)) v = record { entry = e; found = refl; place = ap place_of v }
+looked (Err r) e = cc
+looked (Ok None) e = cc
+looked (Ok (Some x)) e = record { entry = x; found = refl; place = cc }
 
 module _ (image : List ℕ) (view : View) (map kind : ℕ) (key : List ℕ) (room : ℕ) where
-  module _ {v : Value} (e : v ≡ value_of (lookup_of image view map kind key)) {at len : ℕ} (f : v ≡ value.At at len) where
-    found : Looked (lookup_of image view map kind key) at len
+  module _ {v : Outcome (Option Spot)} (e : v ≡ value_of (lookup_of image view map kind key)) {s : Spot} (f : v ≡ Ok (Some s)) where
+    found : Looked (lookup_of image view map kind key) s
     found = looked (lookup_of image view map kind key) (sym e ∙ f)
 
-    pub copy_inside : at + len ≤ length image
+    pub copy_inside : s.at + s.len ≤ length image
     unfolding lookup_of
     copy_inside =
         let x = found.entry in
-        let a : x.value.at ≡ at = ap (λ (s : Spot). s.at) found.place in
-        let l : x.value.len ≡ len = ap (λ (s : Spot). s.len) found.place in
+        let a : x.value.at ≡ s.at = ap (λ (p : Spot). p.at) found.place in
+        let l : x.value.len ≡ s.len = ap (λ (p : Spot). p.len) found.place in
         omega (arith, a, l, asking_inside image view (bind (asked_map map kind) (keyed key)) (λ k. key_of k key) x found.found)
 
-    module _ (small : room < len) where
+    module _ (small : room < s.len) where
       copy_small : copy_of image view map kind key room ≡ Err area_too_small
       unfolding copy_of
-      copy_small = rw (found.found, found.place, lt-leb len room small)
+      copy_small = rw (found.found, found.place, lt-leb s.len room small)
 
-      pub copy_refuses : {r : Refusal} → r ≡ area_too_small → value.Refused r ≡ value_of (copy_of image view map kind key room)
+      pub copy_refuses : Err area_too_small ≡ value_of (copy_of image view map kind key room)
       unfolding value_of
-      copy_refuses i = rw (copy_small, i)
+      copy_refuses = rw copy_small
 
       pub copy_refused : (area : List ℕ) → area ≡ area_after image (copy_of image view map kind key room) area
       unfolding area_after
       copy_refused area = rw copy_small
 
-    module _ (fits : len ≤ room) where
+    module _ (fits : s.len ≤ room) where
       copy_fits : copy_of image view map kind key room ≡ Ok (Some found.entry)
       unfolding copy_of
-      copy_fits = rw (found.found, found.place, le-leb len room fits)
+      copy_fits = rw (found.found, found.place, le-leb s.len room fits)
 
-      pub copy_answers : value.At at len ≡ value_of (copy_of image view map kind key room)
+      pub copy_answers : Ok (Some s) ≡ value_of (copy_of image view map kind key room)
       unfolding value_of
       copy_answers = rw (copy_fits, found.place)
 
-      pub copy_written : (area : List ℕ) → take len (drop at image) ++ drop len area ≡ area_after image (copy_of image view map kind key room) area
+      pub copy_written : (area : List ℕ) → take s.len (drop s.at image) ++ drop s.len area ≡ area_after image (copy_of image view map kind key room) area
       unfolding area_after
       copy_written area = rw (copy_fits, found.place)
 
   -- where there is no value
-  abbrev pub NoValue : Value → Type 0
-  NoValue (value.At at len) = ⊥
-  NoValue value.Absent = Unit {0}
-  NoValue (value.Refused r) = Unit {0}
+  abbrev pub NoValue : Outcome (Option Spot) → Type 0
+  NoValue (Ok (Some s)) = ⊥
+  NoValue (Ok None) = Unit {0}
+  NoValue (Err r) = Unit {0}
 
   copy_same : (o : Outcome (Option Entry)) → NoValue (value_of o) → bind o (fitting room) ≡ o
   unfolding value_of
@@ -258,7 +239,7 @@ module _ (image : List ℕ) (view : View) (map kind : ℕ) (key : List ℕ) (roo
   copy_same (Ok None) n = refl
   copy_same (Ok (Some e)) n = absurd n
 
-  module _ {v w : Value} (e : v ≡ value_of (lookup_of image view map kind key)) (f : v ≡ w) (n : NoValue w) where
+  module _ {v w : Outcome (Option Spot)} (e : v ≡ value_of (lookup_of image view map kind key)) (f : v ≡ w) (n : NoValue w) where
     copy_lookup : copy_of image view map kind key room ≡ lookup_of image view map kind key
     unfolding copy_of
     copy_lookup = copy_same (lookup_of image view map kind key) (subst NoValue (sym f ∙ e) n)

@@ -17,16 +17,12 @@ use Rattle.opening.specs.declared.View.{View}
 use Rattle.opening.specs.declared.Store.{Store}
 use Rattle.content.specs.declared.Entry.{Entry}
 use Rattle.content.specs.Content.{key_in}
-use Rattle.store.specs.declared.Fetched.{Fetched}
-use Rattle.store.specs.declared.Fetched.TheVariants as fetched
 use Rattle.metadata.specs.Answers.{value_bytes}
 use Rattle.store.specs.Store.{map_id}
 use Rattle.store.specs.Asking.{lookup_in, index_in, count_in}
 use Rattle.viewing.specs.Viewing.{opened_store}
-use Rattle.map.specs.declared.Target.{Target}
-use Rattle.map.specs.declared.Target.TheVariants as target
 use Rattle.map.specs.declared.entry.Item.{Item}
-use Rattle.map.specs.declared.entry.Item.TheVariants as item
+use Rattle.map.specs.declared.entry.Key.TheVariants as given
 
 -- ## Arguments
 -- "kind not 0 or 1"
@@ -80,27 +76,21 @@ unfoldable pub named_of : List ℕ → View → List ℕ → Outcome ℕ
 named_of image view name = branch (well_named name) (bind (opened_store image view) (λ s. map_id image s name)) (Err bad_argument)
 
 -- ## What the code hands back
-abbrev pub asked_said : Target → Outcome (ℕ × Kind)
-asked_said (target.Map id kind) = Ok (id, kind)
-asked_said (target.Refused r) = Err r
-
 -- "index and walk give the key too, kind 1 by place and length"
 abbrev pub entry_item : Key → Entry → Item
-entry_item (number z) e = item.Number z e.value.at e.value.len
-entry_item (text t) e = item.Text e.key.at e.key.len e.value.at e.value.len
+entry_item (number z) e = record { key = given.Number z; value = e.value }
+entry_item (text t) e = record { key = given.Text e.key; value = e.value }
 
-unfoldable pub item_of : Outcome (Key × Entry) → Item
-item_of (Ok e) = entry_item e.0 e.1
-item_of (Err r) = item.Refused r
+unfoldable pub item_of : Outcome (Key × Entry) → Outcome Item
+item_of (Ok e) = Ok (entry_item e.0 e.1)
+item_of (Err r) = Err r
 
 -- an entry by the places of its key and its value: the key is what stands there
 unfoldable pub item_at : List ℕ → Kind → Entry → Item
 item_at image kind e = entry_item (key_in image kind e.key) e
 
-unfoldable pub item_by : List ℕ → Kind → Fetched → Item
-item_by image kind (fetched.At key size at len) =
-    item_at image kind (record { key = record { at = key; len = size }; value = record { at = at; len = len } })
-item_by image kind (fetched.Refused r) = item.Refused r
+abbrev pub item_by : List ℕ → Kind → Outcome Entry → Outcome Item
+item_by image kind f = bind f (λ e. Ok (item_at image kind e))
 
 -- "A copy writes the value at the area's start and nothing after it."; "lent areas keep their bytes"
 unfoldable pub area_after : List ℕ → Outcome (Option Entry) → List ℕ → List ℕ

@@ -1,76 +1,55 @@
 // An entry as index gives it: a number key by its number, a text key by its place and length.
-ghost use Rattle.std.specs.Prelude.{◌≡◌, Ok};
-ghost use Rattle.store.specs.Asking.{index_in};
-ghost use Rattle.map.specs.Map.{item_of, index_of, item_at, item_by, asking};
+ghost use Rattle.std.specs.Prelude.{◌≡◌};
+ghost use Rattle.map.specs.Map.{item_of, index_of, item_at};
 
-use super::{Target, asked};
+use super::asked;
+use content::Entry;
 use key::Kind;
 use opening::View;
 use refusal::Refusal;
-use store::Fetched;
-use viewing::Viewed;
+use text::Spot;
 
-#[derive(Clone, Copy)]
-pub enum Item {
-    Number {
-        key: i64,
-        at: usize,
-        len: usize,
-    },
-    Text {
-        key: usize,
-        size: usize,
-        at: usize,
-        len: usize,
-    },
-    Refused(Refusal),
+#[derive(Clone, Copy, Debug, PartialEq, Eq)]
+pub enum Key {
+    Number(i64),
+    Text(Spot),
+}
+
+#[derive(Clone, Copy, Debug, PartialEq, Eq)]
+pub struct Item {
+    pub key: Key,
+    pub value: Spot,
 }
 
 // The entry whose key and value stand at the places given.
-pub fn item_at(image: &[u8], kind: Kind, key: usize, size: usize, at: usize, len: usize) -> Item
-    ensures { result ≡ item_at image.now kind (record { key = record { at = key; len = size }; value = record { at = at; len = len } }) }
+pub fn item_at(image: &[u8], kind: Kind, entry: Entry) -> Item
+    ensures { result ≡ item_at image.now kind entry }
 {
-    match kind {
+    let key = match kind {
         Kind::Number => {
-            let bits = numeral::be64(text::bytes_at(image, key, size), 0);
-            Item::Number {
-                key: key::signed(bits),
-                at,
-                len,
-            }
+            let bits = numeral::be64(entry.key.bytes(image), 0);
+            Key::Number(bits.cast_signed())
         }
-        Kind::Text => Item::Text { key, size, at, len },
-    }
-}
-
-// The entry that was fetched.
-fn item_by(image: &[u8], kind: Kind, f: Fetched) -> Item
-    ensures { result ≡ item_by image.now kind f }
-{
-    match f {
-        Fetched::Refused(r) => Item::Refused(r),
-        Fetched::At { key, size, at, len } => item_at(image, kind, key, size, at, len),
-    }
-}
-
-// The entry numbered `index` of a map that may be asked for.
-fn index_in(image: &[u8], view: View, id: u32, kind: Kind, index: u64) -> Item
-    ensures { result ≡ item_of (asking (Ok (id, kind)) image.now view (λ s i k. index_in image.now s i k index)) }
-{
-    let o = viewing::open(image, view);
-    match o {
-        Viewed::Refused(r) => Item::Refused(r),
-        Viewed::Is(s) => item_by(image, kind, store::index(image, s, id, kind, index)),
+        Kind::Text => Key::Text(entry.key),
+    };
+    Item {
+        key,
+        value: entry.value,
     }
 }
 
 // The entry numbered `index`, from 0.
-pub fn index(image: &[u8], view: View, map: u64, kind: u64, index: u64) -> Item
+pub fn index(
+    image: &[u8],
+    view: View,
+    map: u64,
+    kind: u64,
+    index: u64,
+) -> Result<Item, Refusal>
     ensures { result ≡ item_of (index_of image.now view map kind index) }
 {
-    let a = asked(map, kind);
-    match a {
-        Target::Refused(r) => Item::Refused(r),
-        Target::Map { id, kind: k } => index_in(image, view, id, k, index),
-    }
+    let (id, k) = asked(map, kind)?;
+    let s = viewing::open(image, view)?;
+    let entry = store::index(image, s, id, k, index)?;
+    Ok(item_at(image, k, entry))
 }

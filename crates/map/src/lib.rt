@@ -5,102 +5,65 @@
 mod copying;
 mod entry;
 
-ghost use Rattle.std.specs.Prelude.{◌≡◌, Ok};
-ghost use Rattle.metadata.specs.Answers.{id_said};
-ghost use Rattle.store.specs.Asking.{value_of, counted_of, lookup_in, count_in};
-ghost use Rattle.key.specs.Key.{key_of};
-ghost use Rattle.map.specs.Map.{asked_said, asked_map, keyed, well_named, asking, lookup_of, count_of, named_of};
+ghost use Rattle.std.specs.Prelude.{◌≡◌};
+ghost use Rattle.store.specs.Asking.{value_of};
+ghost use Rattle.map.specs.Map.{asked_map, well_named, lookup_of, count_of, named_of};
 
 pub use copying::copy;
-pub use entry::{Item, index, item_at};
+pub use entry::{Item, Key, index, item_at};
 use key::Kind;
-use metadata::{Id, Value};
 use opening::View;
 use refusal::Refusal;
-use store::Counted;
-use viewing::Viewed;
-
-// A map that may be asked for.
-#[derive(Clone, Copy)]
-pub enum Target {
-    Map { id: u32, kind: Kind },
-    Refused(Refusal),
-}
+use text::Spot;
 
 // The largest id of a map.
 pub const LARGEST: u64 = 2147483647;
 
 // The map with an id and a kind as a caller gives them.
-pub fn asked(map: u64, kind: u64) -> Target
-    ensures { asked_said result ≡ asked_map map kind }
+pub fn asked(map: u64, kind: u64) -> Result<(u32, Kind), Refusal>
+    ensures { result ≡ asked_map map kind }
 {
     if 1 < kind {
-        return Target::Refused(Refusal::new(Refusal::ARGUMENT));
+        return Err(Refusal::Argument);
     }
     if LARGEST < map {
-        return Target::Refused(Refusal::new(Refusal::ARGUMENT));
+        return Err(Refusal::Argument);
     }
     let id = map as u32;
     if kind == 1 {
-        return Target::Map {
-            id,
-            kind: Kind::Text,
-        };
+        return Ok((id, Kind::Text));
     }
     if id == 0 {
-        return Target::Refused(Refusal::new(Refusal::ARGUMENT));
+        return Err(Refusal::Argument);
     }
-    Target::Map {
-        id,
-        kind: Kind::Number,
-    }
+    Ok((id, Kind::Number))
 }
 
-// A lookup in a map that may be asked for.
-fn lookup_in(image: &[u8], view: View, id: u32, kind: Kind, key: &[u8]) -> Value
-    ensures { result ≡ value_of (asking (keyed key.now (id, kind)) image.now view (λ s i k. lookup_in image.now s i k (key_of k key.now))) }
-{
-    if key::well_formed(kind, key) {} else {
-        return Value::Refused(Refusal::new(Refusal::ARGUMENT));
-    }
-    let o = viewing::open(image, view);
-    match o {
-        Viewed::Refused(r) => Value::Refused(r),
-        Viewed::Is(s) => store::lookup(image, s, id, kind, key),
-    }
-}
-
-// The value of `key`, by its place in the image and its length.
-pub fn lookup(image: &[u8], view: View, map: u64, kind: u64, key: &[u8]) -> Value
+// The value of `key`, if the map has it, by its place in the image and its length.
+pub fn lookup(
+    image: &[u8],
+    view: View,
+    map: u64,
+    kind: u64,
+    key: &[u8],
+) -> Result<Option<Spot>, Refusal>
     ensures { result ≡ value_of (lookup_of image.now view map kind key.now) }
 {
-    let a = asked(map, kind);
-    match a {
-        Target::Refused(r) => Value::Refused(r),
-        Target::Map { id, kind: k } => lookup_in(image, view, id, k, key),
+    let (id, k) = asked(map, kind)?;
+    if !key::well_formed(k, key) {
+        return Err(Refusal::Argument);
     }
-}
-
-// How many entries a map has that may be asked for.
-fn count_in(image: &[u8], view: View, id: u32, kind: Kind) -> Counted
-    ensures { result ≡ counted_of (asking (Ok (id, kind)) image.now view (λ s i k. count_in image.now s i k)) }
-{
-    let o = viewing::open(image, view);
-    match o {
-        Viewed::Refused(r) => Counted::Refused(r),
-        Viewed::Is(s) => store::count(image, s, id, kind),
-    }
+    let s = viewing::open(image, view)?;
+    store::lookup(image, s, id, k, key)
 }
 
 // How many entries the map has, by its root.
-pub fn count(image: &[u8], view: View, map: u64, kind: u64) -> Counted
-    ensures { result ≡ counted_of (count_of image.now view map kind) }
+pub fn count(image: &[u8], view: View, map: u64, kind: u64) -> Result<u64, Refusal>
+    ensures { result ≡ count_of image.now view map kind }
 {
-    let a = asked(map, kind);
-    match a {
-        Target::Refused(r) => Counted::Refused(r),
-        Target::Map { id, kind: k } => count_in(image, view, id, k),
-    }
+    let (id, k) = asked(map, kind)?;
+    let s = viewing::open(image, view)?;
+    store::count(image, s, id, k)
 }
 
 // Whether a name is 1 to 1,000 bytes of 32 to 126.
@@ -117,15 +80,12 @@ fn well_named(name: &[u8]) -> bool
 }
 
 // The id of the map that has a name.
-pub fn named(image: &[u8], view: View, name: &[u8]) -> Id
-    ensures { id_said result ≡ named_of image.now view name.now }
+pub fn named(image: &[u8], view: View, name: &[u8]) -> Result<u32, Refusal>
+    ensures { result ≡ named_of image.now view name.now }
 {
-    if well_named(name) {} else {
-        return Id::Refused(Refusal::new(Refusal::ARGUMENT));
+    if !well_named(name) {
+        return Err(Refusal::Argument);
     }
-    let o = viewing::open(image, view);
-    match o {
-        Viewed::Refused(r) => Id::Refused(r),
-        Viewed::Is(s) => store::map_id(image, s, name),
-    }
+    let s = viewing::open(image, view)?;
+    store::map_id(image, s, name)
 }

@@ -1,15 +1,12 @@
 // What the exports hand to C: a struct for each answer, and how it is made of the answers in Rattle.
-ghost use Rattle.std.specs.Prelude.{◌≡◌, length};
-ghost use Rattle.metadata.specs.Answers.{id_said};
-ghost use Rattle.viewing.specs.Viewing.{store_said};
-ghost use Rattle.mvstore.specs.Exports.{newest_out, value_out, entry_out, count_out, id_out, stop_out, step_out, report_out};
+ghost use Rattle.std.specs.Prelude.{◌≡◌};
+ghost use Rattle.mvstore.specs.Exports.{newest_out, value_out, entry_out, count_out, id_out, stop_out, item_out, step_out, report_out};
 
 use cursor::Walk;
-use map::Item;
-use soundness::Examined;
-use store::Counted;
-use viewing::Viewed;
-use walk::Next;
+use map::{Item, Key};
+use opening::Store;
+use refusal::Refusal;
+use text::Spot;
 
 // What opening answers: the newest chunk, its first block and how many it has, and its version.
 #[repr(C)]
@@ -82,11 +79,11 @@ pub struct Report {
     pub pages: u64,
 }
 
-pub(crate) fn newest_out(v: Viewed) -> Newest
-    ensures { result ≡ newest_out (store_said v) }
+pub(crate) fn newest_out(s: Result<Store, Refusal>) -> Newest
+    ensures { result ≡ newest_out s }
 {
-    match v {
-        Viewed::Is(s) => {
+    match s {
+        Ok(s) => {
             let c = s.newest;
             Newest {
                 refusal: 0,
@@ -96,8 +93,8 @@ pub(crate) fn newest_out(v: Viewed) -> Newest
                 version: c.version,
             }
         }
-        Viewed::Refused(r) => Newest {
-            refusal: r.number as u32,
+        Err(r) => Newest {
+            refusal: r.number() as u32,
             chunk: 0,
             block: 0,
             blocks: 0,
@@ -106,24 +103,24 @@ pub(crate) fn newest_out(v: Viewed) -> Newest
     }
 }
 
-pub(crate) fn value_out(v: metadata::Value) -> Value
+pub(crate) fn value_out(v: Result<Option<Spot>, Refusal>) -> Value
     ensures { result ≡ value_out v }
 {
     match v {
-        metadata::Value::At { at, len } => Value {
+        Ok(Some(spot)) => Value {
             refusal: 0,
             found: 1,
-            at: at as u64,
-            len: len as u64,
+            at: spot.at as u64,
+            len: spot.len as u64,
         },
-        metadata::Value::Absent => Value {
+        Ok(None) => Value {
             refusal: 0,
             found: 0,
             at: 0,
             len: 0,
         },
-        metadata::Value::Refused(r) => Value {
-            refusal: r.number as u32,
+        Err(r) => Value {
+            refusal: r.number() as u32,
             found: 0,
             at: 0,
             len: 0,
@@ -131,28 +128,30 @@ pub(crate) fn value_out(v: metadata::Value) -> Value
     }
 }
 
-pub(crate) fn entry_out(i: Item) -> Entry
+pub(crate) fn entry_out(i: Result<Item, Refusal>) -> Entry
     ensures { result ≡ entry_out i }
 {
     match i {
-        Item::Number { key, at, len } => Entry {
-            refusal: 0,
-            number: key,
-            key_at: 0,
-            key_len: 0,
-            at: at as u64,
-            len: len as u64,
+        Ok(item) => match item.key {
+            Key::Number(number) => Entry {
+                refusal: 0,
+                number,
+                key_at: 0,
+                key_len: 0,
+                at: item.value.at as u64,
+                len: item.value.len as u64,
+            },
+            Key::Text(key) => Entry {
+                refusal: 0,
+                number: 0,
+                key_at: key.at as u64,
+                key_len: key.len as u64,
+                at: item.value.at as u64,
+                len: item.value.len as u64,
+            },
         },
-        Item::Text { key, size, at, len } => Entry {
-            refusal: 0,
-            number: 0,
-            key_at: key as u64,
-            key_len: size as u64,
-            at: at as u64,
-            len: len as u64,
-        },
-        Item::Refused(r) => Entry {
-            refusal: r.number as u32,
+        Err(r) => Entry {
+            refusal: r.number() as u32,
             number: 0,
             key_at: 0,
             key_len: 0,
@@ -162,31 +161,28 @@ pub(crate) fn entry_out(i: Item) -> Entry
     }
 }
 
-pub(crate) fn count_out(c: Counted) -> Count
+pub(crate) fn count_out(c: Result<u64, Refusal>) -> Count
     ensures { result ≡ count_out c }
 {
     match c {
-        Counted::Is(n) => Count {
-            refusal: 0,
-            count: n,
-        },
-        Counted::Refused(r) => Count {
-            refusal: r.number as u32,
+        Ok(count) => Count { refusal: 0, count },
+        Err(r) => Count {
+            refusal: r.number() as u32,
             count: 0,
         },
     }
 }
 
-pub(crate) fn id_out(i: metadata::Id) -> Id
-    ensures { result ≡ id_out (id_said i) }
+pub(crate) fn id_out(i: Result<u32, Refusal>) -> Id
+    ensures { result ≡ id_out i }
 {
     match i {
-        metadata::Id::Is(n) => Id {
+        Ok(id) => Id {
             refusal: 0,
-            id: n as u64,
+            id: id as u64,
         },
-        metadata::Id::Refused(r) => Id {
-            refusal: r.number as u32,
+        Err(r) => Id {
+            refusal: r.number() as u32,
             id: 0,
         },
     }
@@ -208,49 +204,56 @@ fn stop_out(refusal: u32, done: u32, walk: Walk) -> Step
     }
 }
 
-pub(crate) fn step_out(s: walk::Step) -> Step
-    ensures { result ≡ step_out s }
+// A step that yields an entry.
+fn item_out(item: Item, walk: Walk) -> Step
+    ensures { result ≡ item_out walk item }
 {
-    let n = s.next;
-    let walk = s.walk;
-    match n {
-        Next::Number { key, at, len } => Step {
+    match item.key {
+        Key::Number(number) => Step {
             refusal: 0,
             done: 0,
-            number: key,
+            number,
             key_at: 0,
             key_len: 0,
-            at: at as u64,
-            len: len as u64,
+            at: item.value.at as u64,
+            len: item.value.len as u64,
             walk,
         },
-        Next::Text { key, size, at, len } => Step {
+        Key::Text(key) => Step {
             refusal: 0,
             done: 0,
             number: 0,
-            key_at: key as u64,
-            key_len: size as u64,
-            at: at as u64,
-            len: len as u64,
+            key_at: key.at as u64,
+            key_len: key.len as u64,
+            at: item.value.at as u64,
+            len: item.value.len as u64,
             walk,
         },
-        Next::Done => stop_out(0, 1, walk),
-        Next::Refused(r) => stop_out(r.number as u32, 0, walk),
     }
 }
 
-pub(crate) fn report_out(e: Examined) -> Report
+pub(crate) fn step_out(s: walk::Step) -> Step
+    ensures { result ≡ step_out s }
+{
+    match s.next {
+        Ok(Some(item)) => item_out(item, s.walk),
+        Ok(None) => stop_out(0, 1, s.walk),
+        Err(r) => stop_out(r.number() as u32, 0, s.walk),
+    }
+}
+
+pub(crate) fn report_out(e: Result<tree::Report, Refusal>) -> Report
     ensures { result ≡ report_out e }
 {
     match e {
-        Examined::Passed(a) => Report {
+        Ok(a) => Report {
             refusal: 0,
             depth: a.depth,
             entries: a.entries,
             pages: a.pages,
         },
-        Examined::Refused(r) => Report {
-            refusal: r.number as u32,
+        Err(r) => Report {
+            refusal: r.number() as u32,
             depth: 0,
             entries: 0,
             pages: 0,

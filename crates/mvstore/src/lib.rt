@@ -7,8 +7,7 @@ mod answer;
 
 ghost use Rattle.std.specs.Prelude.{◌≡◌, length};
 ghost use Rattle.viewing.specs.Viewing.{opened_store};
-ghost use Rattle.store.specs.Asking.{value_of, counted_of};
-ghost use Rattle.soundness.specs.Examining.{examined_of};
+ghost use Rattle.store.specs.Asking.{value_of};
 ghost use Rattle.walk.specs.Stepping.{step_of};
 ghost use Rattle.examine.specs.Examine.{examine_of};
 ghost use Rattle.map.specs.Map.{lookup_of, index_of, count_of, copy_of, named_of, item_of, area_after};
@@ -42,7 +41,7 @@ pub extern "C" fn mvstore_index(image: &[u8], view: View, map: u64, kind: u64, i
 
 #[unsafe(no_mangle)]
 pub extern "C" fn mvstore_count(image: &[u8], view: View, map: u64, kind: u64) -> Count
-    ensures { result ≡ count_out (counted_of (count_of image.now view map kind)) }
+    ensures { result ≡ count_out (count_of image.now view map kind) }
 {
     count_out(map::count(image, view, map, kind))
 }
@@ -78,7 +77,7 @@ pub extern "C" fn mvstore_next(image: &[u8], view: View, map: u64, kind: u64, wa
 
 #[unsafe(no_mangle)]
 pub extern "C" fn mvstore_examine(image: &[u8], view: View, map: u64, kind: u64) -> Report
-    ensures { result ≡ report_out (examined_of (examine_of image.now view map kind)) }
+    ensures { result ≡ report_out (examine_of image.now view map kind) }
 {
     report_out(examine::examine(image, view, map, kind))
 }

@@ -28,25 +28,13 @@ pub(crate) enum Filled {
     Full { next: usize },
 }
 
-fn wide(x: u16) -> usize
-    ensures { (result ≡ x) × (result < 65536) }
-{
-    x as usize
-}
-
-fn letter(b: u8) -> usize
-    ensures { result ≡ b }
-{
-    b as usize
-}
-
 // Bit `d` of a name: six of each letter tell it from any other, and the last letter's come first.
 fn bit(name: &[u8], d: usize) -> usize
     ensures { result ≡ bit_of name.now d }
 {
     let k = d / 6;
     if k < name.len() {
-        (letter(name[name.len() - 1 - k]) >> (d % 6)) % 2
+        (name[name.len() - 1 - k] as usize >> (d % 6)) % 2
     } else {
         0
     }
@@ -107,14 +95,14 @@ impl NameTree {
     {
         let mut slot = 0;
         for d in 0..LEVELS {
-            let node = wide(self.kids[slot]);
+            let node = self.kids[slot] as usize;
             if node == 0 {
                 return Search::Free(slot);
             }
             if self.used < node {
                 return Search::Deep;
             }
-            if named_at(line, self.from + wide(self.places[node]), name) {
+            if named_at(line, self.from + self.places[node] as usize, name) {
                 return Search::Met;
             }
             slot = 2 * node + bit(name, d);

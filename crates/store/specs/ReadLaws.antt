@@ -10,38 +10,37 @@ use Rattle.key.specs.declared.Kind.{Kind}
 use Rattle.opening.specs.declared.Store.{Store}
 use Rattle.tree.specs.Page.{branch}
 use Rattle.page.specs.declared.Place.{Place}
-use Rattle.page.specs.declared.Judged.TheVariants as judged
+use Rattle.page.specs.declared.Judged.{Judged}
 use Rattle.page.specs.Judged.{judged_at}
 use Rattle.content.specs.Content.{page_of, page_in}
 use Rattle.content.specs.WholeLaws.{Whole, judged_whole}
 use Rattle.metadata.specs.declared.Location.{Location}
-use Rattle.metadata.specs.declared.Location.TheVariants as location
-use Rattle.metadata.specs.Answers.{place_said, located_by}
+use Rattle.metadata.specs.Answers.{located_by}
 use Rattle.store.specs.Store.{chunk_at, reader}
-use Rattle.store.specs.Asking.{judged_in, judged_by}
+use Rattle.store.specs.Asking.{judged_by}
 use Rattle.store.specs.Memory.{IsLocation}
 use Rattle.store.specs.AnswerLaws.{place_told}
 
 module _ (image : List ℕ) (store : Store) (map : ℕ) (kind : Kind) (p : ℕ) where
   -- ## The ways that the code takes
-  pub judged_zero : p ≡ 0 → {r : Refusal} → r ≡ out_of_place → judged.Refused r ≡ judged_by image store map kind p
+  pub judged_zero : p ≡ 0 → Err out_of_place ≡ judged_by image store map kind p
   unfolding judged_by
-  judged_zero e i = rw (eq-eqb p 0 e, i)
+  judged_zero e = rw (eq-eqb p 0 e)
 
   judged_chunk : ¬ (p ≡ 0) → {o : Outcome Place} → o ≡ chunk_at image store 8 (chunk_of p)
-      → judged_in (bind o (λ c. Ok (judged_at image c p map kind))) ≡ judged_by image store map kind p
+      → bind o (λ c. judged_at image c p map kind) ≡ judged_by image store map kind p
   unfolding judged_by
   judged_chunk other e = rw (ne_eqb p 0 other, e)
 
-  module _ (other : ¬ (p ≡ 0)) {c : ℕ} (t : Location) (e : c ≡ chunk_of p) (tells : IsLocation image store 8 c t) where
-    judged_told : judged_in (bind (place_said (located_by t)) (λ l. Ok (judged_at image l p map kind))) ≡ judged_by image store map kind p
+  module _ (other : ¬ (p ≡ 0)) {c : ℕ} (t : Outcome Location) (e : c ≡ chunk_of p) (tells : IsLocation image store 8 c t) where
+    judged_told : bind (located_by t) (λ l. judged_at image l p map kind) ≡ judged_by image store map kind p
     judged_told = judged_chunk other (place_told image store c t tells ∙ ap (chunk_at image store 8) e)
 
-    pub judged_there : {l : Place} {n : ℕ} → t ≡ location.At l n → judged_at image l p map kind ≡ judged_by image store map kind p
+    pub judged_there : {l : Location} → t ≡ Ok l → judged_at image l.place p map kind ≡ judged_by image store map kind p
     unfolding located_by
     judged_there i = rw i at judged_told
 
-    pub judged_nowhere : {r : Refusal} → t ≡ location.Refused r → judged.Refused r ≡ judged_by image store map kind p
+    pub judged_nowhere : {r : Refusal} → t ≡ Err r → Err r ≡ judged_by image store map kind p
     unfolding located_by
     judged_nowhere i = rw i at judged_told
 
@@ -52,7 +51,7 @@ module _ (image : List ℕ) (store : Store) (map : ℕ) (kind : Kind) (p : ℕ) 
     where
       go : (t : Bool) (o : Outcome Place)
           → branch t (Err out_of_place) (bind o (λ c. page_in image c p map kind))
-          ≡ page_of image kind (judged_in (branch t (Err out_of_place) (bind o (λ c. Ok (judged_at image c p map kind)))))
+          ≡ page_of image kind (branch t (Err out_of_place) (bind o (λ c. judged_at image c p map kind)))
       go true o = refl
       go false (Ok c) = refl
       go false (Err r) = refl
@@ -63,7 +62,7 @@ module _ (image : List ℕ) (store : Store) (map : ℕ) (kind : Kind) (p : ℕ) 
   judged_all = go (eqb p 0) (chunk_at image store 8 (chunk_of p))
     where
       go : (t : Bool) (o : Outcome Place)
-          → Whole image kind (judged_in (branch t (Err out_of_place) (bind o (λ c. Ok (judged_at image c p map kind)))))
+          → Whole image kind (branch t (Err out_of_place) (bind o (λ c. judged_at image c p map kind)))
       go true o = tt
       go false (Ok c) = judged_whole image c p map kind
       go false (Err r) = tt

@@ -1,19 +1,13 @@
 // Questions about lines.
 use super::{MOST_BYTES, numbers, output};
-use line::Line;
 
 // `line BYTES`: the length of the line that the area begins with, and the place of the newline.
 fn of_area(question: &[u8]) {
     let mut area = [0u8; MOST_BYTES];
     let n = script::bytes(question, 1, &mut area);
-    let found = line::line_of(&area[..n]);
-    match found {
-        Line::At { len, newline } => {
-            output::numbers(&[len as u64, newline as u64]);
-        }
-        Line::Nothing => {
-            output::word(b"none");
-        }
+    match line::line_of(&area[..n]) {
+        Some(found) => output::numbers(&[found.len as u64, found.newline as u64]),
+        None => output::word(b"none"),
     }
 }
 
@@ -21,13 +15,9 @@ fn of_area(question: &[u8]) {
 fn fields(question: &[u8]) {
     let mut area = [0u8; MOST_BYTES];
     let n = script::bytes(question, 1, &mut area);
-    let f = line::read_fields(&area[..n]);
-    if f.good {
-        let given = f.given;
-        let values = f.values;
-        output::fields(&given, &values);
-    } else {
-        output::word(b"bad");
+    match line::read_fields(&area[..n]) {
+        Some(f) => output::fields(f),
+        None => output::word(b"bad"),
     }
 }
 

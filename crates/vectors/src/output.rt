@@ -1,4 +1,5 @@
 // Answers: words, numbers in hex, byte strings.
+use line::{Fields, Name};
 
 fn end_line() {
     io::write_all(1, b"\n");
@@ -37,32 +38,29 @@ pub fn bytes_from(all: &[u8], from: usize) {
 }
 
 // The number in place `i` of an answer, `-` where it is not given; a space before all but the first.
-fn part(i: usize, given: bool, x: u64) {
+fn part(i: usize, number: Option<u64>) {
     if 0 < i {
         io::write_all(1, b" ");
     }
-    if given {
-        io::print_hex(1, x, 1);
-    } else {
-        io::write_all(1, b"-");
-    }
+    match number {
+        Some(x) => io::print_hex(1, x, 1),
+        None => io::write_all(1, b"-"),
+    };
 }
 
 pub fn numbers(all: &[u64]) {
     let mut i = 0;
     while i < all.len() {
-        part(i, true, all[i]);
+        part(i, Some(all[i]));
         i += 1;
     }
     end_line();
 }
 
 // Of all names the numbers that are given.
-pub fn fields(given: &[bool; 11], values: &[u64; 11]) {
-    let mut i = 0;
-    while i < 11 {
-        part(i, given[i], values[i]);
-        i += 1;
+pub fn fields(f: Fields) {
+    for (i, name) in Name::ALL.iter().enumerate() {
+        part(i, f.get(*name));
     }
     end_line();
 }

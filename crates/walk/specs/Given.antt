@@ -1,5 +1,5 @@
 -- A step as the code takes it: the key is read at its place. The words of private contracts.
-use Rattle.std.specs.Prelude.{ℕ, List}
+use Rattle.std.specs.Prelude.{ℕ, List, Ok, Err, Option, Some, None}
 use Rattle.key.specs.declared.Kind.{Kind}
 use Rattle.key.specs.Key.{Key}
 use Rattle.tree.specs.Walk.{Moved}
@@ -7,23 +7,19 @@ use Rattle.opening.specs.declared.View.{View}
 use Rattle.content.specs.declared.Entry.{Entry}
 use Rattle.content.specs.Content.{key_in}
 use Rattle.cursor.specs.declared.Walk.{Walk}
-use Rattle.cursor.specs.declared.Yield.{Yield}
-use Rattle.cursor.specs.declared.Yield.TheVariants as yields
 use Rattle.cursor.specs.declared.Stepped.{Stepped}
 use Rattle.cursor.specs.Walk.{numbers, moved_by, moved_in}
 use Rattle.store.specs.Store.{reader, map_root}
 use Rattle.viewing.specs.Viewing.{opened_store}
-use Rattle.walk.specs.declared.Next.{Next}
-use Rattle.walk.specs.declared.Next.TheVariants as next
+use Rattle.refusal.specs.Refusal.{Outcome}
+use Rattle.map.specs.declared.entry.Item.{Item}
 use Rattle.walk.specs.declared.Step.{Step}
 use Rattle.walk.specs.Stepping.{entry_next}
 
-unfoldable pub next_by : List ℕ → Kind → Yield → Next
-next_by image kind yields.Done = next.Done
-next_by image kind (yields.Refused r) = next.Refused r
-next_by image kind (yields.Entry key size at len) =
-    entry_next (key_in image kind (record { at = key; len = size }))
-    (record { key = record { at = key; len = size }; value = record { at = at; len = len } })
+unfoldable pub next_by : List ℕ → Kind → Outcome (Option Entry) → Outcome (Option Item)
+next_by image kind (Ok None) = Ok None
+next_by image kind (Err r) = Err r
+next_by image kind (Ok (Some e)) = entry_next (key_in image kind e.key) e
 
 unfoldable pub step_by : List ℕ → Kind → Stepped → Step
 step_by image kind s = record { walk = s.walk; next = next_by image kind s.got }

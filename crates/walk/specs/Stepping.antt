@@ -5,10 +5,9 @@
 --   given w m        the step from w when m is next: the state after it, and the answer `next_of m`
 --   step_of .. w     the call
 --   WalksOf .. w es  steps from w yield the entries es, one a step, and then Done, which is given again
-use Rattle.std.specs.Prelude.{ℕ, ◌≡◌, List, [], ◌∷◌, eqb, None, Option, Some}
-use Rattle.refusal.specs.Refusal.{refusal}
-use Rattle.text.specs.Text.{within}
-use Rattle.key.specs.Key.{Key, number, text}
+use Rattle.std.specs.Prelude.{ℕ, ◌≡◌, List, [], ◌∷◌, eqb, None, Option, Some, Ok, Err, option_map}
+use Rattle.refusal.specs.Refusal.{Outcome, refusal_of}
+use Rattle.key.specs.Key.{Key}
 use Rattle.tree.specs.Page.{branch}
 use Rattle.tree.specs.Walk.{Moved, yield, over, stop}
 use Rattle.opening.specs.declared.View.{View}
@@ -17,24 +16,22 @@ use Rattle.cursor.specs.declared.Walk.{Walk}
 use Rattle.cursor.specs.Walk.{numbers, closed, done_number, state_after, moved_by, moved_in}
 use Rattle.store.specs.Store.{reader, map_root}
 use Rattle.viewing.specs.Viewing.{opened_store}
-use Rattle.map.specs.Map.{asked_map}
-use Rattle.walk.specs.declared.Next.{Next}
-use Rattle.walk.specs.declared.Next.TheVariants as next
+use Rattle.map.specs.declared.entry.Item.{Item}
+use Rattle.map.specs.Map.{asked_map, entry_item}
 use Rattle.walk.specs.declared.Step.{Step}
 
 -- "the last answer: going on, Done or a table number"
-unfoldable pub recorded : ℕ → Option Next
-recorded n = branch (eqb n done_number) (Some next.Done) (branch (within 1 16 n) (Some (next.Refused (refusal n))) None)
+unfoldable pub recorded : ℕ → Option (Outcome (Option Item))
+recorded n = branch (eqb n done_number) (Some (Ok None)) (option_map (λ r. Err r) (refusal_of n))
 
 -- "index and walk give the key too, kind 1 by place and length"
-abbrev pub entry_next : Key → Entry → Next
-entry_next (number z) e = next.Number z e.value.at e.value.len
-entry_next (text t) e = next.Text e.key.at e.key.len e.value.at e.value.len
+abbrev pub entry_next : Key → Entry → Outcome (Option Item)
+entry_next k e = Ok (Some (entry_item k e))
 
-abbrev pub next_of : Moved (Key × Entry) → Next
+abbrev pub next_of : Moved (Key × Entry) → Outcome (Option Item)
 next_of (yield e i is) = entry_next e.0 e.1
-next_of over = next.Done
-next_of (stop r) = next.Refused r
+next_of over = Ok None
+next_of (stop r) = Err r
 
 unfoldable pub given : Walk → Moved (Key × Entry) → Step
 given w m = record { walk = state_after w m; next = next_of m }
@@ -47,7 +44,7 @@ module _ (image : List ℕ) (view : View) (map kind : ℕ) where
       moved_in (map_root image s m.0) (λ root. moved_by (reader image s m.0 m.1) root (numbers w))))
 
   -- "is given again at each later step before anything is judged, the state unchanged"
-  abbrev pub again : Walk → Option Next → Step
+  abbrev pub again : Walk → Option (Outcome (Option Item)) → Step
   again w (Some n) = record { walk = w; next = n }
   again w None = given w (moved_of w)
 
@@ -56,6 +53,6 @@ module _ (image : List ℕ) (view : View) (map kind : ℕ) where
 
   abbrev pub WalksOf : Walk → List (Key × Entry) → Type 0
   WalksOf w [] =
-      let done : Step = record { walk = closed w done_number; next = next.Done } in
+      let done : Step = record { walk = closed w done_number; next = Ok None } in
       (step_of w ≡ done) × (step_of (closed w done_number) ≡ done)
   WalksOf w (e ∷ es) = (v : Walk) × (step_of w ≡ record { walk = v; next = entry_next e.0 e.1 }) × WalksOf v es

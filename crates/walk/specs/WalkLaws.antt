@@ -3,8 +3,7 @@ use Rattle.std.specs.Prelude.{ℕ, ◌≤◌, ◌≡◌, refl, true, false, List
 use Rattle.std.proofs.Math.Bool.{and-eq-true_iff}
 use Rattle.std.proofs.Common.{eq-eqb, ne_eqb, leb-true}
 use Rattle.refusal.specs.declared.Refusal.{Refusal}
-use Rattle.refusal.specs.Refusal.{Outcome, refusal}
-use Rattle.text.specs.Text.{within}
+use Rattle.refusal.specs.Refusal.{Outcome, number_of, refusal_of}
 use Rattle.key.specs.declared.Kind.{Kind}
 use Rattle.key.specs.Key.{Key, number, text}
 use Rattle.tree.specs.Walk.{Moved, yield, over, stop}
@@ -15,8 +14,6 @@ use Rattle.content.specs.declared.Entry.{Entry}
 use Rattle.content.specs.Content.{key_in}
 use Rattle.content.specs.InsideLaws.{EntryIn}
 use Rattle.cursor.specs.declared.Walk.{Walk}
-use Rattle.cursor.specs.declared.Yield.{Yield}
-use Rattle.cursor.specs.declared.Yield.TheVariants as yields
 use Rattle.cursor.specs.declared.Stepped.{Stepped}
 use Rattle.cursor.specs.Walk.{numbers, closed, done_number, moved_by, moved_in, settled}
 use Rattle.store.specs.Store.{reader, map_root}
@@ -24,48 +21,32 @@ use Rattle.store.specs.AskLaws.{next_in_lem}
 use Rattle.store.specs.Walk.{step_in}
 use Rattle.viewing.specs.Viewing.{opened_store}
 use Rattle.map.specs.declared.entry.Item.{Item}
-use Rattle.map.specs.declared.entry.Item.TheVariants as item
 use Rattle.map.specs.Map.{asked_map, entry_item, item_at}
-use Rattle.walk.specs.declared.Next.{Next}
-use Rattle.walk.specs.declared.Next.TheVariants as next
 use Rattle.walk.specs.declared.Step.{Step}
 use Rattle.walk.specs.Stepping.{recorded, entry_next, given, moved_of, step_of}
 use Rattle.walk.specs.Given.{next_by, step_by, moved_after}
 
 -- ## What is yielded
-abbrev pub item_next : Item → Next
-item_next (item.Number z at len) = next.Number z at len
-item_next (item.Text key size at len) = next.Text key size at len
-item_next (item.Refused r) = next.Refused r
-
-item_next_lem : (k : Key) (e : Entry) → item_next (entry_item k e) ≡ entry_next k e
-item_next_lem (number z) e = refl
-item_next_lem (text t) e = refl
-
-module _ (image : List ℕ) (kind : Kind) {y : Yield} where
-  pub next_done : y ≡ yields.Done → next.Done ≡ next_by image kind y
+module _ (image : List ℕ) (kind : Kind) {y : Outcome (Option Entry)} where
+  pub next_done : y ≡ Ok None → Ok None ≡ next_by image kind y
   unfolding next_by
   next_done e = rw e
 
-  pub next_refused : {r : Refusal} → y ≡ yields.Refused r → next.Refused r ≡ next_by image kind y
+  pub next_refused : {r : Refusal} → y ≡ Err r → Err r ≡ next_by image kind y
   unfolding next_by
   next_refused e = rw e
 
-  pub next_item : {key size at len : ℕ} → y ≡ yields.Entry key size at len → {i j : Item}
-      → i ≡ item_at image kind (record { key = record { at = key; len = size }; value = record { at = at; len = len } }) → i ≡ j
-      → item_next j ≡ next_by image kind y
+  pub next_item : {x : Entry} → y ≡ Ok (Some x) → {i : Item} → i ≡ item_at image kind x → Ok (Some i) ≡ next_by image kind y
   unfolding next_by item_at
-  next_item {key} {size} {at} {len} e {i} {j} f g =
-      let x : Entry = record { key = record { at = key; len = size }; value = record { at = at; len = len } } in
-      rw (e, ← g, f) (item_next_lem (key_in image kind x.key) x)
+  next_item e f = rw (e, f)
 
-pub step_next : (image : List ℕ) (kind : Kind) (s : Stepped) {n : Next} → n ≡ next_by image kind s.got
+pub step_next : (image : List ℕ) (kind : Kind) (s : Stepped) {n : Outcome (Option Item)} → n ≡ next_by image kind s.got
     → (let x : Step = record { walk = s.walk; next = n } in x) ≡ step_by image kind s
 unfolding step_by
 step_next image kind s e = rw e
 
-pub step_refused : (w : Walk) (r : Refusal) {s : Stepped} → s ≡ record { walk = closed w r.number; got = yields.Refused r }
-    → (let x : Step = record { walk = s.walk; next = next.Refused r } in x) ≡ given w (stop r)
+pub step_refused : (w : Walk) (r : Refusal) {s : Stepped} → s ≡ record { walk = closed w (number_of r); got = Err r }
+    → (let x : Step = record { walk = s.walk; next = Err r } in x) ≡ given w (stop r)
 unfolding given
 step_refused w r e = rw e
 
@@ -97,22 +78,19 @@ module _ (image : List ℕ) (view : View) (id : ℕ) (kind : Kind) (w : Walk) wh
       go (Ok root) = by root (numbers w)
 
 -- ## The call
-pub table_small : (n : ℕ) → within 1 16 n ≡ true → n ≤ 16
-table_small n t = leb-true n 16 ((and-eq-true_iff (leb 1 n) (leb n 16)).0 t).1
-
 module _ (image : List ℕ) (view : View) (map kind : ℕ) (w : Walk) where
-  pub step_done : w.last ≡ done_number → (let x : Step = record { walk = w; next = next.Done } in x) ≡ step_of image view map kind w
+  pub step_done : w.last ≡ done_number → (let x : Step = record { walk = w; next = Ok None } in x) ≡ step_of image view map kind w
   unfolding step_of recorded
   step_done e = rw (eq-eqb w.last done_number e)
 
   module _ (other : ¬ (w.last ≡ done_number)) where
-    pub step_again : within 1 16 w.last ≡ true → {r : Refusal} → r ≡ refusal w.last
-        → (let x : Step = record { walk = w; next = next.Refused r } in x) ≡ step_of image view map kind w
+    pub step_again : {r : Refusal} → refusal_of w.last ≡ Some r
+        → (let x : Step = record { walk = w; next = Err r } in x) ≡ step_of image view map kind w
     unfolding step_of recorded
-    step_again h e = rw (ne_eqb w.last done_number other, h, e)
+    step_again e = rw (ne_eqb w.last done_number other, e)
 
     -- nothing is recorded
-    module _ (free : within 1 16 w.last ≡ false) where
+    module _ (free : refusal_of w.last ≡ None) where
       step_going : given w (moved_of image view map kind w) ≡ step_of image view map kind w
       unfolding step_of recorded
       step_going = rw (ne_eqb w.last done_number other, free)

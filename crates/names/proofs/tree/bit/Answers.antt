@@ -4,7 +4,7 @@ use Rattle.names.proofs.tree.bit.Goals as goal
 
 pub returns-then-k-name : goal.returns-then-k-name
 unfolding bit_of
-returns-then-k-name c = rw (lt-ltb _ _ c.if-k-name.true, c.letter.ensures)
+returns-then-k-name c = rw (lt-ltb _ _ c.if-k-name.true)
 
 pub returns-else-k-name : goal.returns-else-k-name
 unfolding bit_of

@@ -1,3 +1,6 @@
+use mathlib.Core.Path.{◌∙◌}
+use Rattle.std.proofs.Common.{ap, Ok}
+use Rattle.refusal.proofs.Passing.{handed_up}
 use Rattle.store.specs.AskLaws.{count_empty, count_root}
 use Rattle.position.specs.Laws.{empty_zero, full_other}
 use Rattle.store.proofs.ask.count_from.Goals as goal
@@ -7,20 +10,21 @@ returns-then-is_empty c =
     let a = c.args in
     count_empty a.image.now a.m.store a.m.id a.m.kind a.root.bits (empty_zero c.is_empty.ensures c.if-is_empty.true)
 
-pub read_page-j-requires : goal.read_page-j-requires
-read_page-j-requires c = c.requires
+pub read_page-requires : goal.read_page-requires
+read_page-requires c = c.requires
 
-pub returns-in-Refused : goal.returns-in-Refused
-returns-in-Refused c =
+pub returns-in_err-leaf : goal.returns-in_err-leaf
+returns-in_err-leaf c =
     let a = c.args in
-    count_root a.image.now a.m.store a.m.id a.m.kind a.root.bits (full_other c.is_empty.ensures c.if-is_empty.false) c.read_page-j.ensures.1 c.in-Refused.is
+    handed_up c.from_residual.ensures
+    ∙ count_root a.image.now a.m.store a.m.id a.m.kind a.root.bits (full_other c.is_empty.ensures c.if-is_empty.false) c.read_page.ensures.1 c.in_err-leaf.was
 
 pub returns-in-Leaf : goal.returns-in-Leaf
 returns-in-Leaf c =
     let a = c.args in
-    count_root a.image.now a.m.store a.m.id a.m.kind a.root.bits (full_other c.is_empty.ensures c.if-is_empty.false) c.read_page-j.ensures.1 c.in-Leaf.is
+    count_root a.image.now a.m.store a.m.id a.m.kind a.root.bits (full_other c.is_empty.ensures c.if-is_empty.false) c.read_page.ensures.1 (c.in_ok-leaf.was ∙ ap Ok c.in-Leaf.is)
 
 pub returns-in-Inner : goal.returns-in-Inner
 returns-in-Inner c =
     let a = c.args in
-    count_root a.image.now a.m.store a.m.id a.m.kind a.root.bits (full_other c.is_empty.ensures c.if-is_empty.false) c.read_page-j.ensures.1 c.in-Inner.is
+    count_root a.image.now a.m.store a.m.id a.m.kind a.root.bits (full_other c.is_empty.ensures c.if-is_empty.false) c.read_page.ensures.1 (c.in_ok-leaf.was ∙ ap Ok c.in-Inner.is)

@@ -1,21 +1,21 @@
 use mathlib.Core.Path.{◌∙◌}
+use Rattle.refusal.proofs.Passing.{handed_up}
 use Rattle.store.specs.AskLaws.{index_rooted, index_rootless}
 use Rattle.store.proofs.ask.index_with.Goals as goal
 
-pub root_at-r-requires : goal.root_at-r-requires
-root_at-r-requires c = c.requires
+pub root_at-requires : goal.root_at-requires
+root_at-requires c = c.requires
 
 pub fetch_from-requires : goal.fetch_from-requires
-fetch_from-requires c = c.root_at-r.ensures.0
+fetch_from-requires c = c.root_at.ensures.0
 
-pub returns-in-Refused : goal.returns-in-Refused
-returns-in-Refused c =
+pub returns-in_err-root : goal.returns-in_err-root
+returns-in_err-root c =
     let a = c.args in
-    let r = c.root_at-r in
-    index_rootless a.image.now a.m.store a.m.id a.m.kind r.result r.ensures.1 c.in-Refused.is a.index
+    handed_up c.from_residual.ensures
+    ∙ index_rootless a.image.now a.m.store a.m.id a.m.kind c.root_at.result c.root_at.ensures.1 c.in_err-root.was a.index
 
-pub returns-in-At : goal.returns-in-At
-returns-in-At c =
+pub returns : goal.returns
+returns c =
     let a = c.args in
-    let r = c.root_at-r in
-    c.fetch_from.ensures ∙ index_rooted a.image.now a.m.store a.m.id a.m.kind r.result r.ensures.1 c.in-At.is a.index
+    c.fetch_from.ensures ∙ index_rooted a.image.now a.m.store a.m.id a.m.kind c.root_at.result c.root_at.ensures.1 c.in_ok-root.was a.index

@@ -1,27 +1,23 @@
-use Rattle.store.specs.AskLaws.{turn_refused, turn_leaf, turn_inner}
+use Rattle.std.proofs.Common.{ap, Ok}
+use Rattle.store.specs.AskLaws.{turn_leaf, turn_inner}
 use Rattle.store.proofs.fetch.turn_at.Goals as goal
 
-pub returns-in_default : goal.returns-in_default
-returns-in_default c =
+pub returns-in-Some : goal.returns-in-Some
+returns-in-Some c =
     let a = c.args in
-    rw c.new.ensures (turn_leaf a.image.now a.kind a.index c.in-Leaf.is c.cut.ensures c.entry-e.ensures c.in_default.is)
+    turn_leaf a.image.now a.kind a.index (ap Ok c.in-Leaf.is) c.cut-s.ensures c.nth_entry.ensures c.in-Some.is
 
-pub returns-in_default-c : goal.returns-in_default-c
-returns-in_default-c c =
+pub returns-in-None : goal.returns-in-None
+returns-in-None c =
     let a = c.args in
-    rw c.new-in_default-c.ensures (turn_inner a.image.now a.kind a.index c.in-Inner.is c.cut-s.ensures c.pick_child-c.ensures c.in_default-c.is)
+    turn_leaf a.image.now a.kind a.index (ap Ok c.in-Leaf.is) c.cut-s.ensures c.nth_entry.ensures c.in-None.is
 
-pub returns-in-Refused : goal.returns-in-Refused
-returns-in-Refused c =
+pub returns-in-Some-pick_child : goal.returns-in-Some-pick_child
+returns-in-Some-pick_child c =
     let a = c.args in
-    turn_refused a.image.now a.kind a.index c.in-Refused.is
+    rw c.child.ensures (turn_inner a.image.now a.kind a.index (ap Ok c.in-Inner.is) c.cut-s-in-Inner.ensures c.pick_child.ensures c.in-Some-pick_child.is)
 
-pub returns-in-Entry : goal.returns-in-Entry
-returns-in-Entry c =
+pub returns-in-None-pick_child : goal.returns-in-None-pick_child
+returns-in-None-pick_child c =
     let a = c.args in
-    turn_leaf a.image.now a.kind a.index c.in-Leaf.is c.cut.ensures c.entry-e.ensures c.in-Entry.is
-
-pub returns-in-Child : goal.returns-in-Child
-returns-in-Child c =
-    let a = c.args in
-    rw c.child.ensures (turn_inner a.image.now a.kind a.index c.in-Inner.is c.cut-s.ensures c.pick_child-c.ensures c.in-Child.is)
+    turn_inner a.image.now a.kind a.index (ap Ok c.in-Inner.is) c.cut-s-in-Inner.ensures c.pick_child.ensures c.in-None-pick_child.is

@@ -1,5 +1,6 @@
 use mathlib.Core.Path.{◌∙◌}
 use native.Mathlib.Omega.{arith}
+use Rattle.refusal.proofs.Passing.{handed_up}
 use Rattle.store.specs.ReadLaws.{judged_zero, judged_there, judged_nowhere}
 use Rattle.position.specs.Laws.{empty_zero, full_other}
 use Rattle.store.proofs.read.read_page.Goals as goal
@@ -7,19 +8,27 @@ use Rattle.store.proofs.read.read_page.Goals as goal
 pub returns-then-is_empty : goal.returns-then-is_empty
 returns-then-is_empty c =
     let a = c.args in
-    (c.requires, judged_zero a.image.now a.m.store a.m.id a.m.kind a.p.bits (empty_zero c.is_empty.ensures c.if-is_empty.true) c.new.ensures)
+    (c.requires, judged_zero a.image.now a.m.store a.m.id a.m.kind a.p.bits (empty_zero c.is_empty.ensures c.if-is_empty.true))
 
-pub locate-t-requires : goal.locate-t-requires
-locate-t-requires c = (omega arith, c.requires)
+pub locate-requires : goal.locate-requires
+locate-requires c = (omega arith, c.requires)
 
-pub returns-in-At : goal.returns-in-At
-returns-in-At c =
+pub returns-in_err-l : goal.returns-in_err-l
+returns-in_err-l c =
     let a = c.args in
-    let l = c.locate-t in
-    (l.ensures.0, c.judge.ensures ∙ judged_there a.image.now a.m.store a.m.id a.m.kind a.p.bits (full_other c.is_empty.ensures c.if-is_empty.false) _ c.chunk.ensures l.ensures.1 c.in-At.is)
+    let l = c.locate in
+    (
+      l.ensures.0,
+      handed_up c.from_residual.ensures
+      ∙ judged_nowhere a.image.now a.m.store a.m.id a.m.kind a.p.bits (full_other c.is_empty.ensures c.if-is_empty.false) _ c.chunk.ensures l.ensures.1 c.in_err-l.was,
+    )
 
-pub returns-in-Refused : goal.returns-in-Refused
-returns-in-Refused c =
+pub returns : goal.returns
+returns c =
     let a = c.args in
-    let l = c.locate-t in
-    (l.ensures.0, judged_nowhere a.image.now a.m.store a.m.id a.m.kind a.p.bits (full_other c.is_empty.ensures c.if-is_empty.false) _ c.chunk.ensures l.ensures.1 c.in-Refused.is)
+    let l = c.locate in
+    (
+      l.ensures.0,
+      c.judge.ensures
+      ∙ judged_there a.image.now a.m.store a.m.id a.m.kind a.p.bits (full_other c.is_empty.ensures c.if-is_empty.false) _ c.chunk.ensures l.ensures.1 c.in_ok-l.was,
+    )
