@@ -42,13 +42,7 @@ pub fn item_at(image: &[u8], kind: Kind, entry: Entry) -> Item
 }
 
 // The entry numbered `index`, from 0.
-pub fn index(
-    image: &[u8],
-    view: View,
-    map: u64,
-    kind: u64,
-    index: u64,
-) -> Result<Item, Refusal>
+pub fn index(image: &[u8], view: View, map: u64, kind: u64, index: u64) -> Result<Item, Refusal>
     ensures { result ≡ item_of (index_of image.now view map kind index) }
 {
     let (id, k) = asked(map, kind)?;

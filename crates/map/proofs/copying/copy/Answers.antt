@@ -15,7 +15,7 @@ returns-in_err-spot c =
     let room = length a.area.now in
     record {
       answer = handed_up c.from_residual.ensures ∙ copy_none a.image.now a.view a.map a.kind a.key.now room e f tt;
-      area = copy_kept a.image.now a.view a.map a.kind a.key.now room e f tt a.area.now
+      area = copy_kept a.image.now a.view a.map a.kind a.key.now room e f tt a.area.now;
     }
 
 pub returns-in_default : goal.returns-in_default
@@ -26,7 +26,7 @@ returns-in_default c =
     let room = length a.area.now in
     record {
       answer = copy_none a.image.now a.view a.map a.kind a.key.now room e f tt;
-      area = copy_kept a.image.now a.view a.map a.kind a.key.now room e f tt a.area.now
+      area = copy_kept a.image.now a.view a.map a.kind a.key.now room e f tt a.area.now;
     }
 
 pub returns-then-area-spot : goal.returns-then-area-spot
@@ -38,7 +38,7 @@ returns-then-area-spot c =
     let h = c.if-area-spot.true in
     record {
       answer = copy_refuses a.image.now a.view a.map a.kind a.key.now room e f h;
-      area = copy_refused a.image.now a.view a.map a.kind a.key.now room e f h a.area.now
+      area = copy_refused a.image.now a.view a.map a.kind a.key.now room e f h a.area.now;
     }
 
 pub put-requires : goal.put-requires
@@ -56,5 +56,5 @@ returns c =
     let h : c.in-Some.spot.len ≤ room = omega arith in
     record {
       answer = copy_answers a.image.now a.view a.map a.kind a.key.now room e f h;
-      area = c.put.ensures ∙ copy_written a.image.now a.view a.map a.kind a.key.now room e f h a.area.now
+      area = c.put.ensures ∙ copy_written a.image.now a.view a.map a.kind a.key.now room e f h a.area.now;
     }
