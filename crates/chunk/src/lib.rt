@@ -35,6 +35,7 @@ fn chunk_of(blocks: u32, b: u32, r: &Reading) -> Option<Chunk>
     let block = r.get(Name::Block)?;
     let len = r.get(Name::Len)?;
     let next = r.get(Name::Next)?;
+    // `pages` is needed too; opening makes nothing of its value.
     let _pages = r.get(Name::Pages)?;
     let root = r.get(Name::Root)?;
     let version = r.get(Name::Version)?;
