@@ -1,8 +1,8 @@
 -- Beside demand 3: over a map that the examination passes, a walk from the fresh state yields the entry list in order, one entry a
 -- step, and then Done, which is given again.
-use Rattle.std.specs.Prelude.{ℕ, ◌≡◌, Ok, Err, None, Some, Option}
+use Rattle.std.specs.Prelude.{ℕ, ◌≡◌, Ok, Err, None}
 use Rattle.std.proofs.Math.Path.{refl, sym}
-use Rattle.std.proofs.Common.{◌∙◌, ap, true≢false, arith}
+use Rattle.std.proofs.Common.{◌∙◌, ap, arith}
 use mathlib.Core.List.{List, [], ◌∷◌}
 use Rattle.key.specs.Key.{Key}
 use Rattle.tree.specs.Page.{All}
@@ -11,7 +11,6 @@ use Rattle.opening.specs.declared.View.{View}
 use Rattle.content.specs.declared.Entry.{Entry}
 use Rattle.content.specs.Content.{key_in}
 use Rattle.cursor.specs.declared.Walk.{Walk}
-use Rattle.refusal.specs.Refusal.{Outcome}
 use Rattle.cursor.specs.declared.Stepped.{Stepped}
 use Rattle.cursor.specs.Walk.{fresh, closed, done_number, yield_of, settled}
 use Rattle.store.specs.AskLaws.{entries_key}

@@ -1,17 +1,15 @@
 -- Laws of one step, one for each way that the code takes.
-use Rattle.std.specs.Prelude.{ℕ, ◌≤◌, ◌≡◌, refl, true, false, List, leb, Err, None, Ok, Option, Some}
-use Rattle.std.proofs.Math.Bool.{and-eq-true_iff}
-use Rattle.std.proofs.Common.{eq-eqb, ne_eqb, leb-true}
+use Rattle.std.specs.Prelude.{ℕ, ◌≡◌, refl, List, Err, None, Ok, Option, Some}
+use Rattle.std.proofs.Common.{eq-eqb, ne_eqb}
 use Rattle.refusal.specs.declared.Refusal.{Refusal}
 use Rattle.refusal.specs.Refusal.{Outcome, number_of, refusal_of}
 use Rattle.key.specs.declared.Kind.{Kind}
-use Rattle.key.specs.Key.{Key, number, text}
+use Rattle.key.specs.Key.{Key}
 use Rattle.tree.specs.Walk.{Moved, yield, over, stop}
 use Rattle.tree.proofs.WalkHoldsLaws.{Holds}
 use Rattle.opening.specs.declared.View.{View}
 use Rattle.opening.specs.declared.Store.{Store}
 use Rattle.content.specs.declared.Entry.{Entry}
-use Rattle.content.specs.Content.{key_in}
 use Rattle.content.specs.InsideLaws.{EntryIn}
 use Rattle.cursor.specs.declared.Walk.{Walk}
 use Rattle.cursor.specs.declared.Stepped.{Stepped}
@@ -21,9 +19,9 @@ use Rattle.store.specs.AskLaws.{next_in_lem}
 use Rattle.store.specs.Walk.{step_in}
 use Rattle.viewing.specs.Viewing.{opened_store}
 use Rattle.map.specs.declared.entry.Item.{Item}
-use Rattle.map.specs.Map.{asked_map, entry_item, item_at}
+use Rattle.map.specs.Map.{asked_map, item_at}
 use Rattle.walk.specs.declared.Step.{Step}
-use Rattle.walk.specs.Stepping.{recorded, entry_next, given, moved_of, step_of}
+use Rattle.walk.specs.Stepping.{recorded, given, moved_of, step_of}
 use Rattle.walk.specs.Given.{next_by, step_by, moved_after}
 
 -- ## What is yielded

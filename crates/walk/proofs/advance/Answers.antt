@@ -14,7 +14,13 @@ returns-in-Ok c =
     step_again a.image.now a.view a.map a.kind a.w c.if-w-eq-DONE.false (ok_or_some _ c.try_from.ensures c.in-Ok.is)
 
 pub returns-in-Ok-asked : goal.returns-in-Ok-asked
-returns-in-Ok-asked c = ?
+returns-in-Ok-asked c =
+    let a = c.args in
+    c.advance_in.ensures
+    ∙ step_asked a.image.now a.view a.map a.kind a.w c.if-w-eq-DONE.false (ok_or_none _ c.try_from.ensures c.in_default.is) (sym c.asked.ensures ∙ c.in-Ok-asked.is)
 
 pub returns-in-Err : goal.returns-in-Err
-returns-in-Err c = ?
+returns-in-Err c =
+    let a = c.args in
+    c.refused.ensures
+    ∙ step_bad a.image.now a.view a.map a.kind a.w c.if-w-eq-DONE.false (ok_or_none _ c.try_from.ensures c.in_default.is) (sym c.asked.ensures ∙ c.in-Err.is)
