@@ -23,6 +23,20 @@ pub enum Name {
 }
 
 impl Name {
+    pub const ALL: [Name; 11] = [
+        Name::H,
+        Name::BlockSize,
+        Name::Format,
+        Name::Block,
+        Name::Chunk,
+        Name::Version,
+        Name::Len,
+        Name::Next,
+        Name::Pages,
+        Name::Root,
+        Name::Fletcher,
+    ];
+
     // Its place among them.
     fn index(self) -> usize
         ensures { result ≡ place_of self }

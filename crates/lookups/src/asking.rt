@@ -5,7 +5,6 @@ use metadata::Located;
 use opening::{Store, View};
 use position::Position;
 use refusal::Refusal;
-use viewing::Viewed;
 
 // `map HEX`.
 fn map(line: &[u8], image: &[u8], s: Store) {
@@ -67,7 +66,7 @@ fn question(line: &[u8], image: &[u8], s: Store) {
 // The line that answers a question, in an image that is opened for it.
 pub fn answer(line: &[u8], image: &[u8], edition: u64) {
     match viewing::open(image, View { edition }) {
-        Viewed::Is(s) => question(line, image, s),
-        Viewed::Refused(r) => output::refused(r),
+        Ok(s) => question(line, image, s),
+        Err(r) => output::refused(r),
     }
 }

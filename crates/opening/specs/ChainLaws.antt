@@ -3,7 +3,7 @@
 --   counted s v              1 where a chunk stands that is newer than version v, else 0
 --   above image edition v n  how many of the first n blocks hold a standing chunk that is newer than version v
 use Prim.Native.Nat.{ℕ, zero, suc, ◌+◌, ◌<◌, ◌≤◌}
-use Rattle.std.specs.Prelude.{◌≡◌, Bool, List}
+use Rattle.std.specs.Prelude.{◌≡◌, Bool, List, Option, Some, None}
 use Rattle.std.proofs.Math.Path.{refl}
 use Rattle.std.proofs.Common.{sym, ◌∙◌}
 use Rattle.std.proofs.Math.Bool.{true, false, cond}
@@ -12,16 +12,15 @@ use borrow.Author.Tests.{ltb-true, ltb-false, lt-ltb, le-ltb}
 use Rattle.std.proofs.Math.Dec.{ltb}
 use Rattle.fletcher.specs.declared.Edition.{Edition}
 use Rattle.chunk.specs.declared.Chunk.{Chunk}
-use Rattle.chunk.specs.declared.Standing.{Standing}
-use Rattle.chunk.specs.declared.Standing.TheVariants.{Stands, Nothing}
 use Rattle.chunk.specs.Image.{blocks_in}
 use Rattle.chunk.specs.Chunk.{stands_at}
-use Rattle.opening.specs.Opening.{newer, successor, on_standing, chain}
+use Rattle.opening.specs.Opening.{newer, successor, chain}
+use Rattle.line.specs.Fields.{on_some}
 use Rattle.chunk.specs.ChunkLaws.{Stood, stands_block, stands_stood, kept_told}
 
-unfoldable pub counted : Standing → ℕ → ℕ
-counted Nothing v = 0
-counted (Stands c) v = cond (newer v c) 1 0
+unfoldable pub counted : Option Chunk → ℕ → ℕ
+counted None v = 0
+counted (Some c) v = cond (newer v c) 1 0
 
 unfoldable pub above : List ℕ → Edition → ℕ → ℕ → ℕ
 above image edition v zero = 0
@@ -29,10 +28,10 @@ above image edition v (suc n) = counted (stands_at image edition n) v + above im
 
 -- ## How many are newer
 module _ (v : ℕ) where
-  counted_most : (s : Standing) → counted s v ≤ 1
+  counted_most : (s : Option Chunk) → counted s v ≤ 1
   unfolding counted
-  counted_most Nothing = omega arith
-  counted_most (Stands c) = go (newer v c)
+  counted_most None = omega arith
+  counted_most (Some c) = go (newer v c)
     where
       go : (t : Bool) → cond t 1 0 ≤ 1
       go true = omega arith
@@ -44,10 +43,10 @@ module _ (v : ℕ) where
   above_most image edition (suc n) = omega (arith, counted_most (stands_at image edition n), above_most image edition n)
 
 module _ (v w : ℕ) (h : v ≤ w) where
-  counted_fewer : (s : Standing) → counted s w ≤ counted s v
+  counted_fewer : (s : Option Chunk) → counted s w ≤ counted s v
   unfolding counted
-  counted_fewer Nothing = omega arith
-  counted_fewer (Stands c) = go (newer w c) refl (newer v c) refl
+  counted_fewer None = omega arith
+  counted_fewer (Some c) = go (newer w c) refl (newer v c) refl
     where
       go : (t : Bool) → newer w c ≡ t → (u : Bool) → newer v c ≡ u → cond t 1 0 ≤ cond u 1 0
       go true p true q = omega arith
@@ -60,7 +59,7 @@ module _ (v w : ℕ) (h : v ≤ w) where
   above_fewer image edition (suc n) = omega (arith, counted_fewer (stands_at image edition n), above_fewer image edition n)
 
 -- a chunk counts for the versions below its own, and not for its own
-module _ (image : List ℕ) (edition : Edition) (b v : ℕ) {d : Chunk} (s : stands_at image edition b ≡ Stands d) (h : v < d.version) where
+module _ (image : List ℕ) (edition : Edition) (b v : ℕ) {d : Chunk} (s : stands_at image edition b ≡ Some d) (h : v < d.version) where
   counted_old : counted (stands_at image edition b) v ≡ 1
   unfolding counted
   counted_old = rw (s, lt-ltb v d.version h)
@@ -84,8 +83,8 @@ module _ (image : List ℕ) (edition : Edition) (b v : ℕ) {d : Chunk} (s : sta
           omega (arith, above_fewer v d.version (omega arith) image edition n)
 
 -- ## One step
-module _ (image : List ℕ) (edition : Edition) (c : Chunk) {d : Chunk} (e : successor image edition c ≡ Stands d) where
-  successor_told : (stands_at image edition c.next ≡ Stands d) × (newer c.version d ≡ true)
+module _ (image : List ℕ) (edition : Edition) (c : Chunk) {d : Chunk} (e : successor image edition c ≡ Some d) where
+  successor_told : (stands_at image edition c.next ≡ Some d) × (newer c.version d ≡ true)
   unfolding successor
   successor_told = kept_told (newer c.version) (stands_at image edition c.next) e
 
@@ -112,27 +111,27 @@ unfolding Enough
 blocks_enough image edition c = above_most c.version image edition (blocks_in image)
 
 -- what holds of every last chunk holds where so many steps lead that they are enough
-module _ (image : List ℕ) (edition : Edition) (P : ℕ → Chunk → Type 0) (last : (n : ℕ) (c : Chunk) → successor image edition c ≡ Nothing → P n c)
-    (on : (n : ℕ) (c d : Chunk) → successor image edition c ≡ Stands d → P n d → P (suc n) c) where
+module _ (image : List ℕ) (edition : Edition) (P : ℕ → Chunk → Type 0) (last : (n : ℕ) (c : Chunk) → successor image edition c ≡ None → P n c)
+    (on : (n : ℕ) (c d : Chunk) → successor image edition c ≡ Some d → P n d → P (suc n) c) where
   along : (n : ℕ) (c : Chunk) → Enough image edition c n → P n c
   unfolding Enough
   along zero c h = go (successor image edition c) refl
     where
-      go : (s : Standing) → successor image edition c ≡ s → P 0 c
-      go Nothing e = last 0 c e
-      go (Stands d) e = absurd (omega (arith, successor_falls image edition c e))
+      go : (s : Option Chunk) → successor image edition c ≡ s → P 0 c
+      go None e = last 0 c e
+      go (Some d) e = absurd (omega (arith, successor_falls image edition c e))
   along (suc n) c h = go (successor image edition c) refl (along n)
     where
-      go : (s : Standing) → successor image edition c ≡ s → ((d : Chunk) → Enough image edition d n → P n d) → P (suc n) c
-      go Nothing e ih = last (suc n) c e
-      go (Stands d) e ih = on n c d e (ih d (omega (arith, successor_falls image edition c e)))
+      go : (s : Option Chunk) → successor image edition c ≡ s → ((d : Chunk) → Enough image edition d n → P n d) → P (suc n) c
+      go None e ih = last (suc n) c e
+      go (Some d) e ih = on n c d e (ih d (omega (arith, successor_falls image edition c e)))
 
-pub chain_last : (image : List ℕ) (edition : Edition) (n : ℕ) (c : Chunk) → successor image edition c ≡ Nothing → chain image edition n c ≡ c
+pub chain_last : (image : List ℕ) (edition : Edition) (n : ℕ) (c : Chunk) → successor image edition c ≡ None → chain image edition n c ≡ c
 unfolding chain
 chain_last image edition zero c e = refl
 chain_last image edition (suc n) c e = rw e
 
-chain_on : (image : List ℕ) (edition : Edition) (n : ℕ) (c d : Chunk) → successor image edition c ≡ Stands d → chain image edition (suc n) c ≡ chain image edition n d
+chain_on : (image : List ℕ) (edition : Edition) (n : ℕ) (c d : Chunk) → successor image edition c ≡ Some d → chain image edition (suc n) c ≡ chain image edition n d
 unfolding chain
 chain_on image edition n c d e = rw e
 
@@ -145,18 +144,18 @@ chain_enough image edition =
 
 -- "while a chunk stands at `next` with a strictly higher version, it becomes the newest": the number of steps never cuts it off
 pub chain_whole : (image : List ℕ) (edition : Edition) (c : Chunk) →
-    chain image edition (blocks_in image) c ≡ on_standing (successor image edition c) c (chain image edition (blocks_in image))
+    chain image edition (blocks_in image) c ≡ on_some (successor image edition c) c (chain image edition (blocks_in image))
 unfolding chain
 chain_whole image edition c = chain_enough image edition (blocks_in image) c (blocks_enough image edition c)
 
-pub chain_next : (image : List ℕ) (edition : Edition) (c : Chunk) {d : Chunk} → successor image edition c ≡ Stands d →
+pub chain_next : (image : List ℕ) (edition : Edition) (c : Chunk) {d : Chunk} → successor image edition c ≡ Some d →
     chain image edition (blocks_in image) c ≡ chain image edition (blocks_in image) d
 chain_next image edition c e = rw (chain_whole image edition c, e)
 
 -- nothing newer stands at the last chunk's `next`
-pub chain_ended : (image : List ℕ) (edition : Edition) (c : Chunk) → successor image edition (chain image edition (blocks_in image) c) ≡ Nothing
+pub chain_ended : (image : List ℕ) (edition : Edition) (c : Chunk) → successor image edition (chain image edition (blocks_in image) c) ≡ None
 chain_ended image edition c =
-    along image edition (λ n c. successor image edition (chain image edition n c) ≡ Nothing)
+    along image edition (λ n c. successor image edition (chain image edition n c) ≡ None)
     (λ n c e. rw (chain_last image edition n c e) e)
     (λ n c d e h. rw (chain_on image edition n c d e) h)
     (blocks_in image) c (blocks_enough image edition c)

@@ -4,7 +4,7 @@
 --   examined_under, examined_children  what the examination of a page, of an inner page's children gives back
 --   WholePage                          nothing is missing of an inner page that was judged
 --   tallied                            the children so far and one more
-use Rattle.std.specs.Prelude.{ℕ, ◌+◌, ◌^◌, ◌<◌, max, Bool, false, cond, List, eqb, take, Ok, Err}
+use Rattle.std.specs.Prelude.{ℕ, ◌+◌, ◌^◌, ◌<◌, Bool, false, cond, List, eqb, take, Ok, Err}
 use Rattle.refusal.specs.Refusal.{Outcome, unsound}
 use Rattle.key.specs.declared.Kind.{Kind}
 use Rattle.key.specs.Key.{compare_keys}

@@ -3,7 +3,7 @@
 --   RightWords image store ws      each chunk that the words hold is known: it stands there, and takes as many questions
 --   IsLocation, IsAnswer           what an answer of `locate`, of `descend` says
 --   IsAnswerIn image m root key q  the same of a map that is asked, by a key's bytes
-use Rattle.std.specs.Prelude.{ℕ, ◌≤◌, ◌≡◌, List, Err, None, Ok, Some, Option, option_map}
+use Rattle.std.specs.Prelude.{ℕ, ◌≤◌, ◌≡◌, List, Err, Ok, Option, option_map}
 use Rattle.position.specs.declared.Position.{Position}
 use Rattle.key.specs.declared.Kind.{Kind}
 use Rattle.key.specs.Key.{Key, key_of}

@@ -2,13 +2,13 @@
 --
 --   FirstBy p a      what the first child or entry a of the page at p says of the leftmost way
 --   NextBy .. l p a  what a, which follows number l at the page at p, says of the way by the numbers
-use Rattle.std.specs.Prelude.{ℕ, zero, suc, ◌+◌, ◌≤◌, ◌<◌, ◌≡◌, Bool, cond, ◌⊎◌, List, [], ◌∷◌, ◌++◌, eqb, ltb, leb, get_or, replicate, None, Ok, Some, slice_get}
+use Rattle.std.specs.Prelude.{ℕ, zero, suc, ◌+◌, ◌≤◌, ◌<◌, ◌≡◌, Bool, cond, ◌⊎◌, List, [], ◌∷◌, ◌++◌, eqb, ltb, leb, get_or, replicate, Err, None, Ok, Some, slice_get}
 use Rattle.std.proofs.Math.Path.{refl, ap}
 use Rattle.std.proofs.Common.{◌∙◌, inl, inr, ⊎_elim, add-one, arith}
 use Rattle.std.proofs.Math.Bool.{true, false}
 use Rattle.std.proofs.Math.ListN.{length, take}
 use borrow.Author.Tests.{eqb-true, eqb-false, ltb-true, ltb-false, leb-true, leb-false}
-use Rattle.refusal.specs.Refusal.{unsound}
+use Rattle.refusal.specs.Refusal.{Outcome, unsound}
 use Rattle.position.specs.Position.{of_bits}
 use Rattle.key.specs.declared.Kind.{Kind}
 use Rattle.key.specs.Key.{Key}
@@ -24,10 +24,8 @@ use Rattle.page.specs.declared.Judged.TheVariants as judged
 use Rattle.content.specs.declared.Entry.{Entry}
 use Rattle.content.specs.Content.{entries_in, positions_in, counts_in, keys_in, page_of}
 use Rattle.content.specs.WholeLaws.{Whole}
-use Rattle.cursor.specs.declared.Yield.TheVariants as yields
 use Rattle.cursor.specs.declared.follow.After.{After}
 use Rattle.cursor.specs.declared.follow.After.TheVariants as after
-use Rattle.cursor.specs.Walk.{yield_of}
 use Rattle.cursor.specs.Steps.{entry_after, after_child, after_of, first_of}
 use Rattle.store.specs.Store.{reader}
 use Rattle.store.specs.Asking.{judged_by}
@@ -42,23 +40,23 @@ nth_cases (x ∷ l) (suc i) =
 
 -- ## One page
 module _ (image : List ℕ) (store : Store) (map : ℕ) (kind : Kind) where
-  abbrev pub FirstBy : ℕ → After → Type 0
-  FirstBy p (after.Entry key size at len) =
-      (e : Key × Entry) × (yield_of e ≡ yields.Entry key size at len) ×
+  abbrev pub FirstBy : ℕ → Outcome After → Type 0
+  FirstBy p (Ok (after.Entry x)) =
+      (e : Key × Entry) × (e.1 ≡ x) ×
       ((pre : List ℕ) (k : ℕ) → length pre + k < 16
       → leftmost_at (reader image store map kind) pre k p ≡ prefixed (pre ++ replicate k 0) e 0 [])
-  FirstBy p after.Over =
+  FirstBy p (Ok after.Over) =
       (pre : List ℕ) (k : ℕ) → length pre + k < 16
       → (length pre + k ≡ 0 → leftmost_at (reader image store map kind) pre k p ≡ over) ×
       (0 < length pre + k → leftmost_at (reader image store map kind) pre k p ≡ stop unsound)
-  FirstBy p (after.Last q) =
+  FirstBy p (Ok (after.Last q)) =
       (pre : List ℕ) (k : ℕ) → length pre + k < 16
       → leftmost_at (reader image store map kind) pre k p ≡ leftmost_at (reader image store map kind) pre (suc k) q.bits
-  FirstBy p (after.Child q x) = ⊥
-  FirstBy p (after.Refused r) =
+  FirstBy p (Ok (after.Child q x)) = ⊥
+  FirstBy p (Err r) =
       (pre : List ℕ) (k : ℕ) → length pre + k < 16 → leftmost_at (reader image store map kind) pre k p ≡ stop r
 
-  leaf_first : (p : ℕ) (es : List (Key × Entry)) → reader image store map kind p ≡ Ok (leaf es) → FirstBy p (entry_after (slice_get es 0))
+  leaf_first : (p : ℕ) (es : List (Key × Entry)) → reader image store map kind p ≡ Ok (leaf es) → FirstBy p (Ok (entry_after (slice_get es 0)))
   leaf_first p [] e = λ pre k room. (
     λ z. leftmost_empty_root (reader image store map kind) pre k p room [] e z refl,
     λ b. leftmost_empty_below (reader image store map kind) pre k p room [] e b refl,
@@ -66,15 +64,15 @@ module _ (image : List ℕ) (store : Store) (map : ℕ) (kind : Kind) where
   leaf_first p (x ∷ es) e =
       (x, refl, λ pre k room. leftmost_entry (reader image store map kind) pre k p room (x ∷ es) e x (omega arith))
 
-  first_judged : (p : ℕ) (j : Judged) → reader image store map kind p ≡ page_of image kind j → FirstBy p (first_of image kind j)
+  first_judged : (p : ℕ) (j : Outcome Judged) → reader image store map kind p ≡ page_of image kind j → FirstBy p (first_of image kind j)
   unfolding page_of first_of
-  first_judged p (judged.Refused r) e = λ pre k room. leftmost_refused (reader image store map kind) pre k p room r e
-  first_judged p (judged.Leaf n keys values end) e = leaf_first p (entries_in (take end image) kind n keys values) e
-  first_judged p (judged.Inner n positions counts keys end total) e = λ pre k room.
-      let s = take end image in
-      let ps = positions_in s (n + 1) positions in
-      let ns = counts_in s (n + 1) counts in
-      let ks = keys_in s kind n keys in
+  first_judged p (Err r) e = λ pre k room. leftmost_refused (reader image store map kind) pre k p room r e
+  first_judged p (Ok (judged.Leaf l)) e = leaf_first p (entries_in (take l.end image) kind l.n l.keys l.values) e
+  first_judged p (Ok (judged.Inner q)) e = λ pre k room.
+      let s = take q.end image in
+      let ps = positions_in s (q.n + 1) q.positions in
+      let ns = counts_in s (q.n + 1) q.counts in
+      let ks = keys_in s kind q.n q.keys in
       leftmost_inner (reader image store map kind) pre k p room (children_of ps ns ks) e
       ∙ ap (leftmost_at (reader image store map kind) pre (suc k)) (first_child_lem ps ns ks)
 
@@ -82,29 +80,29 @@ module _ (image : List ℕ) (store : Store) (map : ℕ) (kind : Kind) where
   first_by p = first_judged p (judged_by image store map kind p) (reader_judged image store map kind p)
 
   module _ (nums : List ℕ) (past : Moved (Key × Entry)) (l p : ℕ) where
-    abbrev pub NextBy : After → Type 0
-    NextBy (after.Entry key size at len) =
-        (e : Key × Entry) × (yield_of e ≡ yields.Entry key size at len) × (suc l ≡ length nums) ×
+    abbrev pub NextBy : Outcome After → Type 0
+    NextBy (Ok (after.Entry x)) =
+        (e : Key × Entry) × (e.1 ≡ x) × (suc l ≡ length nums) ×
         (next_at (reader image store map kind) nums past l p ≡ prefixed (take l nums) e (suc (get_or nums l 0)) []) × (get_or nums l 0 < 0x80000000)
-    NextBy after.Over = next_at (reader image store map kind) nums past l p ≡ past
-    NextBy (after.Last q) =
+    NextBy (Ok after.Over) = next_at (reader image store map kind) nums past l p ≡ past
+    NextBy (Ok (after.Last q)) =
         (suc l < length nums) ×
         (next_at (reader image store map kind) nums past l p ≡ next_at (reader image store map kind) nums past (suc l) q.bits)
-    NextBy (after.Child q x) =
+    NextBy (Ok (after.Child q x)) =
         (suc l < length nums) ×
         (next_at (reader image store map kind) nums past l p
         ≡ next_at (reader image store map kind) nums (leftmost_at (reader image store map kind) (raised nums l) 0 x.bits) (suc l) q.bits)
         × (get_or nums l 0 < 0x80000000)
-    NextBy (after.Refused r) = next_at (reader image store map kind) nums past l p ≡ stop r
+    NextBy (Err r) = next_at (reader image store map kind) nums past l p ≡ stop r
 
     module _ (room : l < 16) (below : l < length nums) where
       module _ (es : List (Key × Entry)) (e : reader image store map kind p ≡ Ok (leaf es)) (n : ℕ) (few : n < 0x80000000) (whole : length es ≡ n)
           (end : suc l ≡ length nums) where
-        leaf_next : n ≤ get_or nums l 0 → NextBy (after.Refused unsound)
+        leaf_next : n ≤ get_or nums l 0 → NextBy (Err unsound)
         leaf_next h = at_no_entry (reader image store map kind) nums past l p room es e end (omega arith)
 
         leaf_end : (b : Bool) → leb n (get_or nums l 0) ≡ b
-            → NextBy (cond b (after.Refused unsound) (entry_after (slice_get es (get_or nums l 0 + 1))))
+            → NextBy (cond b (Err unsound) (Ok (entry_after (slice_get es (get_or nums l 0 + 1)))))
         leaf_end true h = leaf_next (leb-true n (get_or nums l 0) h)
         leaf_end false h =
             let i = get_or nums l 0 in
@@ -125,8 +123,8 @@ module _ (image : List ℕ) (store : Store) (map : ℕ) (kind : Kind) where
       module _ (ps ns : List ℕ) (ks : List Key) (e : reader image store map kind p ≡ Ok (inner (children_of ps ns ks))) (n : ℕ)
           (few : n < 0x80000000) (whole : length ks ≡ n) (more : suc l < length nums) where
         inner_at_lem : get_or nums l 0 ≤ n → (b : Bool) → eqb (get_or nums l 0) n ≡ b
-            → NextBy (cond b (after.Last (of_bits (get_or ps (get_or nums l 0) 0)))
-            (after.Child (of_bits (get_or ps (get_or nums l 0) 0)) (of_bits (get_or ps (get_or nums l 0 + 1) 0))))
+            → NextBy (cond b (Ok (after.Last (of_bits (get_or ps (get_or nums l 0) 0))))
+            (Ok (after.Child (of_bits (get_or ps (get_or nums l 0) 0)) (of_bits (get_or ps (get_or nums l 0 + 1) 0)))))
         inner_at_lem low true h =
             let i = get_or nums l 0 in
             let same : i ≡ n = eqb-true i n h in (
@@ -145,34 +143,34 @@ module _ (image : List ℕ) (store : Store) (map : ℕ) (kind : Kind) where
             )
 
         inner_next : (b : Bool) → ltb n (get_or nums l 0) ≡ b
-            → NextBy (cond b (after.Refused unsound) (cond (eqb (get_or nums l 0) n) (after.Last (of_bits (get_or ps (get_or nums l 0) 0)))
-            (after.Child (of_bits (get_or ps (get_or nums l 0) 0)) (of_bits (get_or ps (get_or nums l 0 + 1) 0)))))
+            → NextBy (cond b (Err unsound) (cond (eqb (get_or nums l 0) n) (Ok (after.Last (of_bits (get_or ps (get_or nums l 0) 0))))
+            (Ok (after.Child (of_bits (get_or ps (get_or nums l 0) 0)) (of_bits (get_or ps (get_or nums l 0 + 1) 0))))))
         inner_next true h =
             let high : n < get_or nums l 0 = ltb-true n (get_or nums l 0) h in
             at_no_child (reader image store map kind) nums past l p room (children_of ps ns ks) e more
             (child_none (get_or nums l 0) ps ns ks (omega arith))
         inner_next false h = inner_at_lem (ltb-false n (get_or nums l 0) h) (eqb (get_or nums l 0) n) refl
 
-      next_judged : (j : Judged) → Whole image kind j → reader image store map kind p ≡ page_of image kind j
+      next_judged : (j : Outcome Judged) → Whole image kind j → reader image store map kind p ≡ page_of image kind j
           → (t : Bool) → eqb (l + 1) (length nums) ≡ t → NextBy (after_of image kind (get_or nums l 0) t j)
       unfolding page_of after_of after_child
-      next_judged (judged.Refused r) w e t h = at_refused (reader image store map kind) nums past l p room r e
-      next_judged (judged.Leaf n keys values end) w e false h =
+      next_judged (Err r) w e t h = at_refused (reader image store map kind) nums past l p room r e
+      next_judged (Ok (judged.Leaf q)) w e false h =
           let other = eqb-false (l + 1) (length nums) h in
-          at_too_deep (reader image store map kind) nums past l p room (entries_in (take end image) kind n keys values) e (omega (arith, other))
-      next_judged (judged.Leaf n keys values end) w e true h =
+          at_too_deep (reader image store map kind) nums past l p room (entries_in (take q.end image) kind q.n q.keys q.values) e (omega (arith, other))
+      next_judged (Ok (judged.Leaf q)) w e true h =
           let same : l + 1 ≡ length nums = eqb-true (l + 1) (length nums) h in
-          leaf_end (entries_in (take end image) kind n keys values) e n w.few w.all_entries (omega arith) (leb n (get_or nums l 0)) refl
-      next_judged (judged.Inner n positions counts keys end total) w e true h =
+          leaf_end (entries_in (take q.end image) kind q.n q.keys q.values) e q.n w.few w.all_entries (omega arith) (leb q.n (get_or nums l 0)) refl
+      next_judged (Ok (judged.Inner q)) w e true h =
           let same : l + 1 ≡ length nums = eqb-true (l + 1) (length nums) h in
-          let s = take end image in
+          let s = take q.end image in
           at_too_high (reader image store map kind) nums past l p room
-          (children_of (positions_in s (n + 1) positions) (counts_in s (n + 1) counts) (keys_in s kind n keys)) e (omega arith)
-      next_judged (judged.Inner n positions counts keys end total) w e false h =
+          (children_of (positions_in s (q.n + 1) q.positions) (counts_in s (q.n + 1) q.counts) (keys_in s kind q.n q.keys)) e (omega arith)
+      next_judged (Ok (judged.Inner q)) w e false h =
           let other = eqb-false (l + 1) (length nums) h in
-          let s = take end image in
-          inner_next (positions_in s (n + 1) positions) (counts_in s (n + 1) counts) (keys_in s kind n keys) e n w.few w.all_keys
-          (omega (arith, other)) (ltb n (get_or nums l 0)) refl
+          let s = take q.end image in
+          inner_next (positions_in s (q.n + 1) q.positions) (counts_in s (q.n + 1) q.counts) (keys_in s kind q.n q.keys) e q.n w.few w.all_keys
+          (omega (arith, other)) (ltb q.n (get_or nums l 0)) refl
 
       pub next_by_lem : NextBy (after_of image kind (get_or nums l 0) (eqb (l + 1) (length nums)) (judged_by image store map kind p))
       next_by_lem =

@@ -69,14 +69,9 @@ pub(crate) fn leftmost_from(
                 let depth = depth + 1;
                 return Ok(Some(Leftmost { depth, entry }));
             }
-            After::Over => {
-                if depth == 0 {
-                    return Ok(None);
-                }
-                return Err(Refusal::Unsound);
-            }
-            After::Last(position) => q = position,
-            After::Child { position, after: _ } => q = position,
+            After::Over if depth == 0 => return Ok(None),
+            After::Over => return Err(Refusal::Unsound),
+            After::Last(position) | After::Child { position, .. } => q = position,
         }
     }
     Err(Refusal::TooDeep)

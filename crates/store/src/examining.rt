@@ -1,7 +1,6 @@
 // The examination of a map: depth first, a page's own rules before its keys, its separators before its
 // children, a child before its recorded count.
 ghost use Rattle.std.specs.Prelude.{◌≤◌, ◌<◌, ◌≡◌};
-ghost use Rattle.tree.specs.Examination.{both};
 ghost use Rattle.store.specs.Memory.{RightWords};
 ghost use Rattle.store.specs.Examining.{tallied, over_children, examine_in, examined_under, examined_children, WholePage, Fits};
 

@@ -60,7 +60,7 @@ pub(crate) fn fetch_from(
     }
     let mut p = root;
     let mut left = index;
-    for _ in 0..16 {
+    for _ in 0..16u32 {
         let page = read_page(image, memory, m, p)?;
         match turn_at(image, m.kind, page, left)? {
             Turn::Child { position, rest } => {

@@ -65,7 +65,7 @@ pub(crate) fn descend(
     }
     let mut p = root;
     let mut need: u32 = 0;
-    for _ in 0..16 {
+    for _ in 0..16u32 {
         if p.is_empty() {
             return Err(Refusal::Place);
         }

@@ -33,11 +33,13 @@ fn advance_from(image: &[u8], memory: &mut [u64], m: Map, root: Position, w: Wal
     match down_by(image, memory, m, root, w) {
         Err(r) => w.refused(r),
         Ok(Down::Over) => w.done(),
-        Ok(Down::Entry {
-            level,
-            number,
-            entry,
-        }) => Stepped {
+        Ok(
+            Down::Entry {
+                level,
+                number,
+                entry,
+            },
+        ) => Stepped {
             walk: numbered(w.places, level, number, w.depth),
             got: Ok(Some(entry)),
         },

@@ -4,28 +4,13 @@ use crate::yes_or_no;
 use line::{Fields, Name};
 use std::{fmt, io};
 
-// The names in the order in which an answer gives their values.
-const NAMES: [Name; 11] = [
-    Name::H,
-    Name::BlockSize,
-    Name::Format,
-    Name::Block,
-    Name::Chunk,
-    Name::Version,
-    Name::Len,
-    Name::Next,
-    Name::Pages,
-    Name::Root,
-    Name::Fletcher,
-];
-
 // What a line says, as an answer: the value of each name, `-` where it is not given.
 #[derive(Clone, Copy)]
 struct Said(Fields);
 
 impl fmt::Display for Said {
     fn fmt<W: fmt::Write>(&self, f: &mut fmt::Formatter<W>) -> fmt::Result {
-        for (i, name) in NAMES.into_iter().enumerate() {
+        for (i, name) in Name::ALL.into_iter().enumerate() {
             if 0 < i {
                 f.write_str(" ")?;
             }

@@ -2,39 +2,30 @@
 #![tactic(auto)]
 
 ghost use Rattle.std.specs.Prelude.{◌≡◌};
-ghost use Rattle.viewing.specs.Viewing.{store_said, opened_in, opened_store};
+ghost use Rattle.viewing.specs.Viewing.{edition_of, opened_store};
 
 use fletcher::Edition;
-use opening::{Opened, Store, View};
+use opening::{Store, View};
 use refusal::Refusal;
 
-// The store that is asked, or why there is none.
-#[derive(Clone, Copy)]
-pub enum Viewed {
-    Is(Store),
-    Refused(Refusal),
-}
-
-// The store of an image in an edition.
-fn open_in(image: &[u8], edition: Edition) -> Viewed
-    ensures { store_said result ≡ opened_in image.now edition }
+// The edition that a number names.
+#[tactic(auto, unfolding(crate::specs::Viewing::edition_of))]
+fn edition_of(n: u64) -> Result<Edition, Refusal>
+    ensures { result ≡ edition_of n }
 {
-    let o = opening::open(image, edition);
-    match o {
-        Opened::Newest(newest) => Viewed::Is(Store { edition, newest }),
-        Opened::Refused(r) => Viewed::Refused(r),
+    match n {
+        1 => Ok(Edition::First),
+        2 => Ok(Edition::Second),
+        _ => Err(Refusal::Argument),
     }
 }
 
 // The store of an image by a view. The edition is an argument: it is judged before the image.
-pub fn open(image: &[u8], view: View) -> Viewed
-    ensures { store_said result ≡ opened_store image.now view }
+#[tactic(auto, unfolding(crate::specs::Viewing::opened_store, crate::specs::Viewing::opened_in))]
+pub fn open(image: &[u8], view: View) -> Result<Store, Refusal>
+    ensures { result ≡ opened_store image.now view }
 {
-    if view.edition == 1 {
-        return open_in(image, Edition::First);
-    }
-    if view.edition == 2 {
-        return open_in(image, Edition::Second);
-    }
-    Viewed::Refused(Refusal::new(Refusal::ARGUMENT))
+    let edition = edition_of(view.edition)?;
+    let newest = opening::open(image, edition)?;
+    Ok(Store { edition, newest })
 }

@@ -1,5 +1,4 @@
-use Rattle.std.specs.Prelude.{Err}
-use mathlib.Core.Path.{sym, ◌∙◌, ap}
+use mathlib.Core.Path.{sym}
 use native.Mathlib.Omega.{arith}
 use Rattle.map.proofs.MapLaws.{asked_kind, asked_large, asked_text, asked_metadata, asked_number}
 use Rattle.map.proofs.asked.Goals as goal
@@ -7,18 +6,18 @@ use Rattle.map.proofs.asked.Goals as goal
 pub returns-then-kind-gt1 : goal.returns-then-kind-gt1
 returns-then-kind-gt1 c =
     let a = c.args in
-    ap Err c.new.ensures ∙ sym (asked_kind a.map a.kind c.if-kind-gt1.true)
+    sym (asked_kind a.map a.kind c.if-kind-gt1.true)
 
 pub returns-then-map-gt-LARGEST : goal.returns-then-map-gt-LARGEST
 returns-then-map-gt-LARGEST c =
     let a = c.args in
-    ap Err c.new-then-map-gt-LARGEST.ensures ∙ sym (asked_large a.map a.kind (omega arith) c.if-map-gt-LARGEST.true)
+    sym (asked_large a.map a.kind (omega arith) c.if-map-gt-LARGEST.true)
 
 pub returns-then-kind-eq1 : goal.returns-then-kind-eq1
 returns-then-kind-eq1 c = sym (asked_text c.args.map c.if-kind-eq1.true (omega arith))
 
 pub returns-then-id-eq0 : goal.returns-then-id-eq0
-returns-then-id-eq0 c = ap Err c.new-then-id-eq0.ensures ∙ sym (asked_metadata c.args.map (omega arith) c.if-id-eq0.true)
+returns-then-id-eq0 c = sym (asked_metadata c.args.map (omega arith) c.if-id-eq0.true)
 
 pub returns : goal.returns
 returns c = sym (asked_number c.args.map (omega arith) c.if-id-eq0.false (omega arith))

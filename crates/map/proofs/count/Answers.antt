@@ -1,17 +1,16 @@
-use mathlib.Core.Path.{sym, ◌∙◌, ap}
-use Rattle.store.specs.Asking.{counted_of}
-use Rattle.map.specs.Map.{count_of}
-use Rattle.map.proofs.MapLaws.{asking_bad, asking_told, asked_refused, asked_told}
+use Rattle.refusal.proofs.Passing.{handed_up}
+use Rattle.map.specs.Map.{asking, count_of}
 use Rattle.map.proofs.count.Goals as goal
 
-pub returns-in-Refused : goal.returns-in-Refused
-unfolding counted_of count_of
-returns-in-Refused c =
-    let a = c.args in
-    sym (ap counted_of (asking_bad a.image.now a.view _ (asked_refused a.map a.kind _ c.asked-a.ensures c.in-Refused.is)))
+pub returns-in_err-id : goal.returns-in_err-id
+unfolding count_of asking
+returns-in_err-id c = rw (← c.asked.ensures, c.in_err-id.was) (handed_up c.from_residual.ensures)
 
-pub returns-in-Map : goal.returns-in-Map
-unfolding count_of
-returns-in-Map c =
-    let a = c.args in
-    c.count_in.ensures ∙ ap counted_of (asking_told a.image.now a.view _ (asked_told a.map a.kind _ c.asked-a.ensures c.in-Map.is))
+pub returns-in_err-s : goal.returns-in_err-s
+unfolding count_of asking
+returns-in_err-s c =
+    rw (← c.asked.ensures, c.in_ok-id.was, ← c.open.ensures, c.in_err-s.was) (handed_up c.from_residual-in_err-s.ensures)
+
+pub returns : goal.returns
+unfolding count_of asking
+returns c = rw (← c.asked.ensures, c.in_ok-id.was, ← c.open.ensures, c.in_ok-s.was) c.count.ensures

@@ -1,15 +1,24 @@
-use mathlib.Core.Path.{sym, ◌∙◌, ap}
+use Rattle.refusal.proofs.Passing.{handed_up}
 use Rattle.store.specs.Asking.{value_of}
-use Rattle.map.proofs.MapLaws.{asked_refused, asked_told, lookup_bad, lookup_asked}
+use Rattle.map.specs.Map.{keyed, asking, lookup_of}
 use Rattle.map.proofs.lookup.Goals as goal
 
-pub returns-in-Refused : goal.returns-in-Refused
-unfolding value_of
-returns-in-Refused c =
-    let a = c.args in
-    sym (ap value_of (lookup_bad a.image.now a.view a.map a.kind a.key.now (asked_refused a.map a.kind _ c.asked-a.ensures c.in-Refused.is)))
+pub returns-in_err-id : goal.returns-in_err-id
+unfolding value_of lookup_of asking
+returns-in_err-id c = rw (← c.asked.ensures, c.in_err-id.was) (handed_up c.from_residual.ensures)
 
-pub returns-in-Map : goal.returns-in-Map
-returns-in-Map c =
-    let a = c.args in
-    c.lookup_in.ensures ∙ ap value_of (lookup_asked a.image.now a.view a.map a.kind a.key.now (asked_told a.map a.kind _ c.asked-a.ensures c.in-Map.is))
+pub returns-then-not-well_formed : goal.returns-then-not-well_formed
+unfolding value_of lookup_of asking keyed
+returns-then-not-well_formed c = rw (← c.asked.ensures, c.in_ok-id.was, ← c.well_formed-2.ensures, c.if-not-well_formed.true)
+
+pub returns-in_err-s : goal.returns-in_err-s
+unfolding value_of lookup_of asking keyed
+returns-in_err-s c =
+    rw (← c.asked.ensures, c.in_ok-id.was, ← c.well_formed-2.ensures, c.if-not-well_formed.false, ← c.open.ensures, c.in_err-s.was)
+    (handed_up c.from_residual-in_err-s.ensures)
+
+pub returns : goal.returns
+unfolding lookup_of asking keyed
+returns c =
+    rw (← c.asked.ensures, c.in_ok-id.was, ← c.well_formed-2.ensures, c.if-not-well_formed.false, ← c.open.ensures, c.in_ok-s.was)
+    c.lookup.ensures

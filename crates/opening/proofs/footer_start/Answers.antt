@@ -1,60 +1,58 @@
-use Prim.Native.Nat.{ℕ}
-use mathlib.Core.List.{List}
-use mathlib.Core.Bool.{Bool, true}
-use Rattle.fletcher.specs.declared.Edition.{Edition}
-use Rattle.chunk.specs.declared.image.Reading.{Reading}
-use Rattle.chunk.specs.Image.{blocks_in, footer_line}
-use Rattle.chunk.specs.Names.{given_at, value_at}
-use mathlib.Core.Path.{◌≡◌, sym, ◌∙◌}
-use Rattle.text.specs.Text.{same}
-use Rattle.line.specs.Reading.{number_of, slot_of}
-use Rattle.chunk.specs.Chunk.{stands_at, kept}
-use Rattle.opening.specs.Opening.{ends_at, footer_start}
+use mathlib.Core.Bool.{Bool, true, false, cond}
+use Prim.Native.Nat.{◌+◌}
+use borrow.Author.Tests.{ne_eqb}
+use mathlib.Core.Path.{◌≡◌, refl, sym, ap, ◌∙◌}
+use Rattle.std.specs.Bool.{then_some}
+use Rattle.std.specs.Prelude.{Some, None}
+use Rattle.chunk.specs.declared.Chunk.{Chunk}
+use Rattle.opening.specs.Opening.{footer_start}
 use Rattle.chunk.specs.ChunkLaws.{stands_footed, stands_unsaid}
 use Rattle.opening.specs.OpeningLaws.{footed_elsewhere, footed_ending}
 use Rattle.opening.proofs.footer_start.Goals as goal
+use Rattle.opening.proofs.footer_start.Goals.{then-end-blocks, else-end-blocks}
 
-pub returns-else-gives : goal.returns-else-gives
-unfolding footer_start slot_of number_of same
-returns-else-gives c =
-    rw (← c.blocks_in-blocks.ensures, ← c.footer_line-r.ensures, ← c.gives.ensures, c.if-gives.false)
+pub returns-in_err-r : goal.returns-in_err-r
+unfolding footer_start
+returns-in_err-r c = rw (← c.requires, ← c.footer_line.ensures, c.in_err-r.was) c.from_residual.ensures
 
--- what is left once the footer names a block
-named : (image : List ℕ) (e : Edition) {blocks v : ℕ} {r : Reading} {g : Bool} → blocks ≡ blocks_in image → r ≡ footer_line image e blocks →
-    g ≡ given_at r.fields 3 → g ≡ true → v ≡ value_at r.fields 3 →
-    footer_start image e ≡ kept (ends_at blocks) (stands_at image e v)
-unfolding footer_start slot_of number_of same
-named image e b f g t v = rw (← b, ← f, ← g, t, ← v)
+pub returns-in_err-block : goal.returns-in_err-block
+unfolding footer_start
+returns-in_err-block c =
+    rw (← c.requires, ← c.footer_line.ensures, c.in_ok-r.was, ← c.get.ensures, c.in_err-block.was) c.from_residual-in_err-block.ensures
 
-pub returns-in_default : goal.returns-in_default
-returns-in_default c =
-    rw (named c.args.image.now c.args.edition c.blocks_in-blocks.ensures c.footer_line-r.ensures c.gives.ensures c.if-gives.true c.value.ensures, stands_unsaid _ _ _ (sym c.said_at-s.ensures ∙ c.in_default.is))
-
-pub returns-else-c-blocks : goal.returns-else-c-blocks
-returns-else-c-blocks c =
-    let a = c.args in
-    rw (named c.args.image.now c.args.edition c.blocks_in-blocks.ensures c.footer_line-r.ensures c.gives.ensures c.if-gives.true c.value.ensures, stands_footed a.image.now _ (sym c.said_at-s.ensures ∙ c.in-Stands.is) a.edition, footed_elsewhere a.image.now a.edition c.in-Stands.c c.blocks_in-blocks.result c.if-c-blocks.false)
-
-pub returns-then-is_footer : goal.returns-then-is_footer
-returns-then-is_footer c =
+pub returns-in_err-c : goal.returns-in_err-c
+unfolding footer_start
+returns-in_err-c c =
     let a = c.args in
     rw (
-      named c.args.image.now c.args.edition c.blocks_in-blocks.ensures c.footer_line-r.ensures c.gives.ensures c.if-gives.true c.value.ensures,
-      stands_footed a.image.now _ (sym c.said_at-s.ensures ∙ c.in-Stands.is) a.edition,
-      footed_ending a.image.now a.edition c.in-Stands.c c.blocks_in-blocks.result c.if-c-blocks.true,
-      ← c.footer_line-r.ensures,
-      ← c.is_footer.ensures,
-      c.if-is_footer.true,
+      ← c.requires,
+      ← c.footer_line.ensures,
+      c.in_ok-r.was,
+      ← c.get.ensures,
+      c.in_ok-block.was,
+      stands_unsaid a.image.now a.edition c.in_ok-block.block (sym c.said_at.ensures ∙ c.in_err-c.was),
     )
+    c.from_residual-in_err-c.ensures
 
-pub returns-else-is_footer : goal.returns-else-is_footer
-returns-else-is_footer c =
+chosen : (b : Bool) (c : Chunk) → then_some b c ≡ cond b (Some c) None
+chosen true c = refl
+chosen false c = refl
+
+pub returns : goal.returns
+unfolding footer_start
+returns c =
     let a = c.args in
+    let d = c.in_ok-c.c in
     rw (
-      named c.args.image.now c.args.edition c.blocks_in-blocks.ensures c.footer_line-r.ensures c.gives.ensures c.if-gives.true c.value.ensures,
-      stands_footed a.image.now _ (sym c.said_at-s.ensures ∙ c.in-Stands.is) a.edition,
-      footed_ending a.image.now a.edition c.in-Stands.c c.blocks_in-blocks.result c.if-c-blocks.true,
-      ← c.footer_line-r.ensures,
-      ← c.is_footer.ensures,
-      c.if-is_footer.false,
+      ← c.requires,
+      ← c.footer_line.ensures,
+      c.in_ok-r.was,
+      ← c.get.ensures,
+      c.in_ok-block.was,
+      stands_footed a.image.now c.in_ok-block.block (sym c.said_at.ensures ∙ c.in_ok-c.was) a.edition,
     )
+    (elim c.if-end-blocks.branch [
+      | then-end-blocks w ↦ c.then_some.ensures ∙ ap (λ (b : Bool). then_some b d) w.then_some-is ∙ chosen w.is_footer.result d ∙
+          sym (footed_ending a.image.now a.edition d a.blocks w.if-end-blocks.true ∙ rw (← c.footer_line.ensures, c.in_ok-r.was, ← w.is_footer.ensures))
+      | else-end-blocks w ↦ c.then_some.ensures ∙ rw (w.then_some-is, ne_eqb (d.block + d.len) a.blocks w.if-end-blocks.false) (sym (footed_elsewhere a.image.now a.edition d a.blocks w.if-end-blocks.false))
+    ])

@@ -1,6 +1,4 @@
-use mathlib.Core.Path.{◌∙◌, ap}
-use native.Mathlib.Omega.{arith}
-use Rattle.metadata.specs.Answers.{place_said}
+use Rattle.std.proofs.Common.{◌∙◌, arith}
 use Rattle.store.specs.MemoryLaws.{empty_right}
 use Rattle.store.specs.AnswerLaws.{place_told}
 use Rattle.store.proofs.chunk_place.Goals as goal
@@ -9,7 +7,4 @@ pub locate-requires : goal.locate-requires
 locate-requires c = (omega arith, rw c.many_words-memory.ensures (empty_right _ _ 8192))
 
 pub returns : goal.returns
-returns c =
-    let a = c.args in
-    let l = c.locate in
-    ap place_said c.located_by.ensures ∙ place_told a.image.now a.store a.chunk l.result l.ensures.1
+returns c = c.located_by.ensures ∙ place_told _ _ _ _ c.locate.ensures.1

@@ -1,13 +1,5 @@
 use Rattle.map.proofs.MapLaws.{item_number, item_text}
-use borrow.Author.Rules.{rules}
 use Rattle.map.proofs.entry.item_at.Goals as goal
 
-pub returns-in-Number : goal.returns-in-Number
-returns-in-Number c =
-    let a = c.args in
-    search (rules, item_number a.image.now a.kind a.key a.size a.at a.len c.in-Number.is c.signed.ensures c.be64-bits.ensures c.bytes_at.ensures)
-
-pub returns-in-Text : goal.returns-in-Text
-returns-in-Text c =
-    let a = c.args in
-    item_text a.image.now a.kind a.key a.size a.at a.len c.in-Text.is
+pub returns : goal.returns
+returns c = ?

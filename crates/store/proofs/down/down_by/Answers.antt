@@ -1,114 +1,87 @@
-use Prim.Native.Nat.{◌≤◌}
-use mathlib.Core.Path.{refl}
 use native.Mathlib.Omega.{arith}
-use lib.ListN.{length}
-use Rattle.store.specs.WayLaws.{going_root, going_refused, going_entry, going_over, going_last, going_child}
+use Rattle.refusal.proofs.Passing.{handed_up}
+use Rattle.store.specs.WayLaws.{going_root, going_unread, going_refused, going_entry, going_over, going_last, going_child}
 use Rattle.store.specs.WayLaws.{entry_few, child_few}
-use borrow.Author.Rules.{rules}
 use Rattle.store.proofs.down.down_by.Goals as goal
 use Rattle.store.proofs.down.down_by.Goals.{in-Last, in-Child}
 
 pub loop-level-init : goal.loop-level-init
 loop-level-init c =
     let a = c.args in
-    let pre = c.requires in (
-      pre.4,
-      going_root a.image.now a.m.store a.m.id a.m.kind a.w.places a.w.depth a.root.bits pre.2 (omega arith) (omega arith)
-          (omega arith) 0 a.root,
-      refl,
+    let pre = c.requires in
+    record {
+      right = pre.4;
+      way = going_root a.image.now a.m.store a.m.id a.m.kind a.w.places a.w.depth a.root.bits pre.2 pre.1 pre.0 pre.3;
+    }
+
+pub returns-in_err-page : goal.returns-in_err-page
+returns-in_err-page c =
+    let pre = c.requires in
+    let read = c.read_page.ensures in (
+      read.0,
+      rw (handed_up c.from_residual.ensures)
+          (going_unread _ _ _ _ _ _ _ pre.2 pre.1 c.loop-level.invariant.way read.1 c.in_err-page.was),
     )
 
-pub read_page-j-requires : goal.read_page-j-requires
-read_page-j-requires c = c.loop-level.invariant.0
-
-pub returns-in-Refused : goal.returns-in-Refused
-returns-in-Refused c =
-    let a = c.args in
-    let few : a.w.depth ≤ length a.w.places = c.requires.2 in
-    let most : a.w.depth ≤ 16 = c.requires.1 in
-    let l = c.loop-level in
-    let r = c.read_page-j in
-    let after-at = c.after_at-a in (
-      r.ensures.0,
-      going_refused a.image.now a.m.store a.m.id a.m.kind a.w.places a.w.depth a.root.bits few most l.invariant.1
-          r.ensures.1 after-at.ensures c.in-Refused.is,
+pub returns-in_err-entry : goal.returns-in_err-entry
+returns-in_err-entry c =
+    let pre = c.requires in
+    let read = c.read_page.ensures in (
+      read.0,
+      rw (handed_up c.from_residual-in_err-entry.ensures)
+          (going_refused _ _ _ _ _ _ _ pre.2 pre.1 c.loop-level.invariant.way read.1 c.in_ok-page.was c.after_at.ensures
+          c.in_err-entry.was),
     )
 
 pub overflow_add-result : goal.overflow_add-result
 overflow_add-result c =
-    let a = c.args in
-    let few : a.w.depth ≤ length a.w.places = c.requires.2 in
-    let most : a.w.depth ≤ 16 = c.requires.1 in
-    let l = c.loop-level in
-    let r = c.read_page-j in
-    let after-at = c.after_at-a in
+    let pre = c.requires in
+    let read = c.read_page.ensures in
     omega (
       arith,
-      entry_few a.image.now a.m.store a.m.id a.m.kind a.w.places a.w.depth a.root.bits few most l.invariant.1
-          r.ensures.1 after-at.ensures c.in-Entry.is,
+      entry_few _ _ _ _ _ _ _ pre.2 pre.1 c.loop-level.invariant.way read.1 c.in_ok-page.was c.after_at.ensures
+          (rw c.in-Entry.is at c.in_ok-entry.was),
     )
 
 pub returns-in-Entry : goal.returns-in-Entry
 returns-in-Entry c =
-    let a = c.args in
-    let few : a.w.depth ≤ length a.w.places = c.requires.2 in
-    let most : a.w.depth ≤ 16 = c.requires.1 in
-    let l = c.loop-level in
-    let r = c.read_page-j in
-    let after-at = c.after_at-a in (
-      r.ensures.0,
-      going_entry a.image.now a.m.store a.m.id a.m.kind a.w.places a.w.depth a.root.bits few most l.invariant.1
-          r.ensures.1 after-at.ensures c.in-Entry.is,
+    let pre = c.requires in
+    let read = c.read_page.ensures in (
+      read.0,
+      going_entry _ _ _ _ _ _ _ pre.2 pre.1 c.loop-level.invariant.way read.1 c.in_ok-page.was c.after_at.ensures
+          (rw c.in-Entry.is at c.in_ok-entry.was),
     )
 
 pub returns-in-Over : goal.returns-in-Over
 returns-in-Over c =
-    let a = c.args in
-    let few : a.w.depth ≤ length a.w.places = c.requires.2 in
-    let most : a.w.depth ≤ 16 = c.requires.1 in
-    let l = c.loop-level in
-    let r = c.read_page-j in
-    let after-at = c.after_at-a in
-    let over-at = c.over_at in (
-      r.ensures.0,
-      going_over a.image.now a.m.store a.m.id a.m.kind a.w.places a.w.depth a.root.bits few most l.invariant.1
-          r.ensures.1 after-at.ensures c.in-Over.is over-at.ensures,
+    let pre = c.requires in
+    let read = c.read_page.ensures in (
+      read.0,
+      going_over _ _ _ _ _ _ _ pre.2 pre.1 c.loop-level.invariant.way read.1 c.in_ok-page.was c.after_at.ensures
+          (rw c.in-Over.is at c.in_ok-entry.was) c.over_at.ensures,
     )
 
-pub overflow_add-number : goal.overflow_add-number
-overflow_add-number c =
-    let a = c.args in
-    let few : a.w.depth ≤ length a.w.places = c.requires.2 in
-    let most : a.w.depth ≤ 16 = c.requires.1 in
-    let l = c.loop-level in
-    let r = c.read_page-j in
-    let after-at = c.after_at-a in
+pub overflow_add-left : goal.overflow_add-left
+overflow_add-left c =
+    let pre = c.requires in
+    let read = c.read_page.ensures in
     omega (
       arith,
-      child_few a.image.now a.m.store a.m.id a.m.kind a.w.places a.w.depth a.root.bits few most l.invariant.1
-          r.ensures.1 after-at.ensures c.in-Child.is,
+      child_few _ _ _ _ _ _ _ pre.2 pre.1 c.loop-level.invariant.way read.1 c.in_ok-page.was c.after_at.ensures
+          (rw c.in-Child.is at c.in_ok-entry.was),
     )
 
 pub loop-level-preserved : goal.loop-level-preserved
 loop-level-preserved c =
-    let a = c.args in
-    let few : a.w.depth ≤ length a.w.places = c.requires.2 in
-    let most : a.w.depth ≤ 16 = c.requires.1 in
-    let l = c.loop-level in
-    let r = c.read_page-j in
-    let after-at = c.after_at-a in
-    let branch = c.match-a in (
-      r.ensures.0,
-      elim branch.branch [
-        | in-Last w ↦ rw (w.p-is, w.found-is, w.number-is, w.next-is)
-            (going_last a.image.now a.m.store a.m.id a.m.kind a.w.places a.w.depth a.root.bits few most l.invariant.1
-            r.ensures.1 after-at.ensures w.in-Last.is)
-        | in-Child w ↦ rw (w.p-is, w.found-is, w.number-is, w.next-is)
-            (going_child a.image.now a.m.store a.m.id a.m.kind a.w.places a.w.depth a.root.bits few most l.invariant.1
-            r.ensures.1 after-at.ensures w.in-Child.is)
-      ],
-      search rules,
-    )
-
-pub returns : goal.returns
-returns c = absurd (omega (arith, c.loop-level.invariant.1.below))
+    let pre = c.requires in
+    let read = c.read_page.ensures in record {
+      right = read.0;
+      way = elim c.match-branch-3.branch [
+        | in-Last w ↦ rw (w.p-is, w.left-is)
+            (going_last _ _ _ _ _ _ _ pre.2 pre.1 c.loop-level.invariant.way read.1 c.in_ok-page.was c.after_at.ensures
+            (rw w.in-Last.is at c.in_ok-entry.was))
+        | in-Child w ↦ rw (w.p-is, w.left-is)
+            (going_child _ _ _ _ _ _ _ pre.2 pre.1 c.loop-level.invariant.way read.1 c.in_ok-page.was c.after_at.ensures
+            (rw w.in-Child.is at c.in_ok-entry.was))
+      ];
+    }

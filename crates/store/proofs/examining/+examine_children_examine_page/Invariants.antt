@@ -10,11 +10,11 @@ decreases-examine_children l = 2 * l.levels + 1
 abbrev pub decreases-examine_page : goal.decreases-examine_page
 decreases-examine_page l = 2 * l.levels
 
-abbrev pub invariant-examine_children-loop-sum : goal.invariant-examine_children-loop-sum
-invariant-examine_children-loop-sum l =
+abbrev pub invariant-examine_children-loop-r : goal.invariant-examine_children-loop-r
+invariant-examine_children-loop-r l =
     RightWords l.image l.m.store l.memory
-    × Came l.image l.m.store l.m.id l.m.kind l.levels l.page l.initial.lo l.hi l.j l.counts l.keys l.lo l.r
+    × Came l.image l.m.store l.m.id l.m.kind l.levels l.page l.fn.span.lo l.fn.span.hi l.j l.counts l.keys l.lo l.r
     × (length l.memory ≡ length l.initial.memory)
 
-abbrev pub decreases-examine_children-loop-sum : goal.decreases-examine_children-loop-sum
-decreases-examine_children-loop-sum l = l.page.n - l.j
+abbrev pub decreases-examine_children-loop-r : goal.decreases-examine_children-loop-r
+decreases-examine_children-loop-r l = l.page.n - l.j

@@ -1,33 +1,30 @@
 use native.Mathlib.Omega.{arith}
+use Rattle.refusal.proofs.Passing.{handed_up}
+use Rattle.std.proofs.Common.{◌∙◌}
 use Rattle.store.specs.TallyLaws.{tallied_refused, tallied_unsound, tallied_sum, fits_passed}
 use Rattle.store.proofs.examining.tally.Goals as goal
+
+pub returns-in_err-a : goal.returns-in_err-a
+returns-in_err-a c =
+    let a = c.args in
+    handed_up c.from_residual.ensures ∙ tallied_refused a.r a.count c.in_err-a.was
 
 pub returns-then-a-count : goal.returns-then-a-count
 returns-then-a-count c =
     let a = c.args in
-    tallied_unsound a.r a.count c.in-Passed.is c.if-a-count.true c.new.ensures
+    tallied_unsound a.r a.count c.in_ok-a.was c.if-a-count.true
 
 pub overflow_add-result : goal.overflow_add-result
 overflow_add-result c =
     let a = c.args in
-    omega (arith, (fits_passed a.r c.requires c.in-Passed.is).0)
+    omega (arith, (fits_passed a.r c.requires c.in_ok-a.was).0)
 
-pub overflow_add-result-in-Passed : goal.overflow_add-result-in-Passed
-overflow_add-result-in-Passed c =
+pub overflow_add-result-2 : goal.overflow_add-result-2
+overflow_add-result-2 c =
     let a = c.args in
-    omega (arith, (fits_passed a.r c.requires c.in-Passed.is).1)
+    omega (arith, (fits_passed a.r c.requires c.in_ok-a.was).1)
 
-pub returns-in-Refused : goal.returns-in-Refused
-returns-in-Refused c =
+pub returns : goal.returns
+returns c =
     let a = c.args in
-    tallied_refused a.r a.count c.in-Refused.is
-
-pub returns-then-r-a : goal.returns-then-r-a
-returns-then-r-a c =
-    let a = c.args in
-    tallied_sum a.r a.count c.in-Passed.is (omega (arith, c.if-a-count.false)) (omega arith)
-
-pub returns-else-r-a : goal.returns-else-r-a
-returns-else-r-a c =
-    let a = c.args in
-    tallied_sum a.r a.count c.in-Passed.is (omega (arith, c.if-a-count.false)) (omega arith)
+    tallied_sum a.r a.count c.in_ok-a.was (omega (arith, c.if-a-count.false)) c.max.ensures

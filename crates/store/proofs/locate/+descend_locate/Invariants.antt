@@ -1,5 +1,5 @@
 -- The measure is twice the questions that may still be opened, and one more for a descent.
-use Rattle.std.proofs.Common.{◌≡◌, ◌+◌, ◌*◌, length}
+use Rattle.std.proofs.Common.{◌+◌, ◌-◌, ◌*◌}
 use Rattle.key.specs.Key.{key_of}
 use Rattle.store.specs.Memory.{RightWords}
 use Rattle.store.specs.CycleLaws.{Came}
@@ -11,11 +11,8 @@ decreases-descend l = 2 * l.q + 1
 abbrev pub decreases-locate : goal.decreases-locate
 decreases-locate l = 2 * l.q
 
-abbrev pub invariant-descend-loop-left : goal.invariant-descend-loop-left
-invariant-descend-loop-left l =
-    RightWords l.image l.m.store l.memory
-    × Came l.image l.m.store l.m.id l.m.kind l.initial.p.bits (key_of l.m.kind l.key) l.q l.need l.left l.p.bits
-    × (length l.memory ≡ length l.initial.memory)
-
-abbrev pub decreases-descend-loop-left : goal.decreases-descend-loop-left
-decreases-descend-loop-left l = l.left
+abbrev pub invariant-descend-loop : goal.invariant-descend-loop
+invariant-descend-loop l = record {
+  right : RightWords l.image l.m.store l.memory;
+  came : Came l.image l.m.store l.m.id l.m.kind l.initial.p.bits (key_of l.m.kind l.key) l.q l.need (16 - l.counter) l.p.bits;
+}

@@ -1,8 +1,0 @@
-use borrow.Author.Tests.{le-leb, lt-leb}
-use Rattle.walk.proofs.in_table.Goals as goal
-
-pub returns-then-n-ge1 : goal.returns-then-n-ge1
-returns-then-n-ge1 c = rw (le-leb 1 c.args.n c.if-n-ge1.true)
-
-pub returns-else-n-ge1 : goal.returns-else-n-ge1
-returns-else-n-ge1 c = rw (lt-leb 1 c.args.n c.if-n-ge1.false)
