@@ -16,15 +16,15 @@ pub struct Reading {
 
 impl Reading {
     // The value of a name, if it is given.
-    pub fn get(self, name: Name) -> Option<u64>
-        ensures { result ≡ value_of self.fields (text_of name) }
+    pub fn get(&self, name: Name) -> Option<u64>
+        ensures { result ≡ value_of self.now.fields (text_of name) }
     {
         self.fields.get(name)
     }
 
     // Whether the name is given, with the value `v`.
-    pub fn says(self, name: Name, v: u64) -> bool
-        ensures { result ≡ is_value (value_of self.fields (text_of name)) v }
+    pub fn says(&self, name: Name, v: u64) -> bool
+        ensures { result ≡ is_value (value_of self.now.fields (text_of name)) v }
     {
         self.get(name) == Some(v)
     }

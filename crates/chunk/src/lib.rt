@@ -26,15 +26,16 @@ pub struct Chunk {
 
 // The chunk that a header in block `b` says, if it has all the fields that are needed and fits the block
 // of an image of so many blocks. Its pages begin after the header's newline.
-fn chunk_of(blocks: u32, b: u32, r: Reading) -> Option<Chunk>
+fn chunk_of(blocks: u32, b: u32, r: &Reading) -> Option<Chunk>
     requires inside { b ≤ blocks }
-    requires small { r.newline < 1024 }
-    ensures { result ≡ told blocks b (Some r) }
+    requires small { r.now.newline < 1024 }
+    ensures { result ≡ told blocks b (Some r.now) }
 {
     let id = r.get(Name::Chunk)?;
     let block = r.get(Name::Block)?;
     let len = r.get(Name::Len)?;
     let next = r.get(Name::Next)?;
+    // `pages` is needed too; opening makes nothing of its value.
     let _pages = r.get(Name::Pages)?;
     let root = r.get(Name::Root)?;
     let version = r.get(Name::Version)?;
@@ -57,8 +58,8 @@ fn chunk_of(blocks: u32, b: u32, r: Reading) -> Option<Chunk>
 }
 
 // Whether a footer's reading is the footer of the chunk.
-pub fn is_footer(c: Chunk, r: Reading) -> bool
-    ensures { result ≡ footer_of c (Some r) }
+pub fn is_footer(c: Chunk, r: &Reading) -> bool
+    ensures { result ≡ footer_of c (Some r.now) }
 {
     let id = c.id as u64;
     let block = c.block as u64;
@@ -71,7 +72,7 @@ fn with_footer(image: &[u8], edition: Edition, c: Chunk) -> Option<Chunk>
     ensures { result ≡ footed image.now edition c }
 {
     let r = footer_line(image, edition, c.block + c.len)?;
-    is_footer(c, r).then_some(c)
+    is_footer(c, &r).then_some(c)
 }
 
 // The chunk that the header in block `b` says, whatever its footer is.
@@ -84,7 +85,7 @@ pub fn said_at(image: &[u8], b: u64) -> Option<Chunk>
     }
     let block = b as u32;
     let r = chunk_line(image, block)?;
-    chunk_of(blocks, block, r)
+    chunk_of(blocks, block, &r)
 }
 
 // The chunk that stands at block `b`.

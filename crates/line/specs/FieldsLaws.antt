@@ -1,5 +1,5 @@
 -- Laws of the fields of a line, for the readers of a line's fields.
-use Rattle.std.specs.Prelude.{ℕ, zero, suc, ◌<◌, ◌≡◌, refl, Bool, true, false, cond, ◌||◌, List, [], ◌∷◌, map, length, get_or, None, Option, Some, option_map, is_some}
+use Rattle.std.specs.Prelude.{ℕ, zero, suc, ◌<◌, ◌≡◌, refl, Bool, true, false, cond, ◌||◌, List, [], ◌∷◌, map, length, get_or, None, Option, Some, option_map, is_some, unwrap_or}
 use Rattle.std.proofs.Common.{sym, ◌∙◌, true≢false, arith}
 use Rattle.text.specs.Text.{same}
 use Rattle.line.specs.Field.{Named}
@@ -65,5 +65,16 @@ module _ (line : List ℕ) (fs : List Named) (e : fields_of line ≡ Some fs) (k
       (go (value_in (get_or known k []) fs))
     where
       go : (o : Option ℕ) → is_some o ≡ on_some o false (λ v. true)
+      go None = refl
+      go (Some v) = refl
+
+  -- the value of a name that is given
+  pub read_present : on_some (read_of line) false (λ f. is_some (get_or f.values k None)) ≡ true →
+      value_in (get_or known k []) fs ≡ Some (on_some (read_of line) 0 (λ f. unwrap_or (get_or f.values k None) 0))
+  read_present g =
+      present_value (get_or known k []) fs (sym read_given ∙ g) ∙
+      rw (read_good line fs e, get_or_map (λ name. value_in name fs) known k [] None h) (go (value_in (get_or known k []) fs))
+    where
+      go : (o : Option ℕ) → Some (on_some o 0 (λ v. v)) ≡ Some (unwrap_or o 0)
       go None = refl
       go (Some v) = refl

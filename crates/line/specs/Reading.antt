@@ -1,5 +1,5 @@
--- How a line is read in one pass: the words of the private contracts. What is right is said by Field.antt and Fields.antt; laws say
--- that the two agree.
+-- How a line is read in one pass: the words of the private contracts and of `Fields::get` (`value_of`). What is right is said by
+-- Field.antt and Fields.antt; laws say that the two agree.
 --
 --   number_of name names      the place of a name in a list of names; their count where it is not there
 --   slot_of name              the place of a known name, 11 for any other

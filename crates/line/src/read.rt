@@ -53,8 +53,8 @@ pub struct Fields {
 
 impl Fields {
     // The value of a name, if it is given.
-    pub fn get(self, name: Name) -> Option<u64>
-        ensures { result ≡ value_of self (text_of name) }
+    pub fn get(&self, name: Name) -> Option<u64>
+        ensures { result ≡ value_of self.now (text_of name) }
     {
         self.values[name.index()]
     }
@@ -104,7 +104,7 @@ fn slot_of(name: &[u8]) -> Option<Name>
 // Whether the name is given already or, where it is not a known one, comes again after `end`.
 // Nothing is looked for where the names are known to be `apart`.
 fn repeats(
-    f: Fields,
+    f: &Fields,
     known: Option<Name>,
     apart: bool,
     line: &[u8],
@@ -112,8 +112,8 @@ fn repeats(
     name: &[u8],
 ) -> bool
     requires known { known ≡ known_name name.now }
-    requires apart { apart ≡ true → seen f (slot_of name.now) name.now (parts_after line.now end) ≡ false }
-    ensures { result ≡ seen f (slot_of name.now) name.now (parts_after line.now end) }
+    requires apart { apart ≡ true → seen f.now (slot_of name.now) name.now (parts_after line.now end) ≡ false }
+    ensures { result ≡ seen f.now (slot_of name.now) name.now (parts_after line.now end) }
 {
     if apart {
         return false;
@@ -136,7 +136,7 @@ fn read_each(line: &[u8], apart: bool) -> Option<Fields>
         let field = field_at(line, i)?;
         let name = &line[i..field.colon];
         let known = slot_of(name);
-        if repeats(fields, known, apart, line, field.end, name) {
+        if repeats(&fields, known, apart, line, field.end, name) {
             return None;
         }
         if let Some(k) = known {

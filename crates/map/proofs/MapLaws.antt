@@ -6,7 +6,7 @@
 use Prim.Native.Nat.{ℕ, zero, suc, ◌+◌, ◌≤◌, ◌<◌}
 use Rattle.std.specs.Prelude.{◌≡◌, true, false, List, ◌++◌, leb, ltb, ℤ, length, get_or, take, drop, set, Err, None, Ok, Option, Some}
 use Rattle.std.proofs.Math.Path.{refl, ap}
-use Rattle.std.proofs.Common.{sym, ◌∙◌, subst, true≢false, add-one, arith, take-suc, drop-cons, length-take-le, to_z}
+use Rattle.std.proofs.Common.{sym, ◌∙◌, subst, add-one, arith, take-suc, drop-cons, length-take-le, to_z}
 use Rattle.std.proofs.Math.Bool.{and-eq-true_iff}
 use Rattle.std.proofs.lemmas.List.{set_at}
 use Rattle.std.proofs.Math.Seq.{append_snoc}
@@ -29,7 +29,6 @@ use Rattle.store.specs.Store.{named_map}
 use Rattle.store.specs.Asking.{lookup_in, index_in, value_of, fetched_of}
 use Rattle.store.specs.AskLaws.{lookup_inside, index_key}
 use Rattle.viewing.specs.Viewing.{opened_store}
-use Rattle.map.specs.declared.entry.Item.{Item}
 use Rattle.map.specs.declared.entry.Key.TheVariants as given
 use Rattle.map.specs.Map.{asked_map, keyed, well_named, asking, lookup_of, fitting, copy_of, named_of}
 use Rattle.map.specs.Map.{item_of, item_at, item_by, area_after}

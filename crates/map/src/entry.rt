@@ -25,27 +25,24 @@ pub struct Item {
 pub fn item_at(image: &[u8], kind: Kind, entry: Entry) -> Item
     ensures { result ≡ item_at image.now kind entry }
 {
-    let key = match kind {
+    let value = entry.value;
+    match kind {
         Kind::Number => {
             let bits = numeral::be64(entry.key.bytes(image), 0);
-            Key::Number(bits.cast_signed())
+            Item {
+                key: Key::Number(bits.cast_signed()),
+                value,
+            }
         }
-        Kind::Text => Key::Text(entry.key),
-    };
-    Item {
-        key,
-        value: entry.value,
+        Kind::Text => Item {
+            key: Key::Text(entry.key),
+            value,
+        },
     }
 }
 
 // The entry numbered `index`, from 0.
-pub fn index(
-    image: &[u8],
-    view: View,
-    map: u64,
-    kind: u64,
-    index: u64,
-) -> Result<Item, Refusal>
+pub fn index(image: &[u8], view: View, map: u64, kind: u64, index: u64) -> Result<Item, Refusal>
     ensures { result ≡ item_of (index_of image.now view map kind index) }
 {
     let (id, k) = asked(map, kind)?;

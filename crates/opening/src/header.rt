@@ -20,16 +20,16 @@ pub enum Copy {
 
 // Whether a file header says this format.
 #[tactic(auto, unfolding(crate::specs::Opening::format_right))]
-fn is_format(r: Reading) -> bool
-    ensures { result ≡ format_right (Some r) }
+fn is_format(r: &Reading) -> bool
+    ensures { result ≡ format_right (Some r.now) }
 {
     r.says(Name::H, 2) && r.says(Name::BlockSize, 4096) && r.says(Name::Format, 1)
 }
 
 // The good copy that a file header's reading is: it names all of block, chunk and version, or none.
 #[tactic(auto, unfolding(crate::specs::Opening::copy_of, crate::specs::Opening::names_all, crate::specs::Opening::names_any))]
-fn copy_of(r: Reading) -> Option<Copy>
-    ensures { result ≡ copy_of (Some r) }
+fn copy_of(r: &Reading) -> Option<Copy>
+    ensures { result ≡ copy_of (Some r.now) }
 {
     if !is_format(r) {
         return None;
@@ -66,7 +66,7 @@ fn copy_at(image: &[u8], edition: Edition, copy: u32) -> Option<Copy>
     ensures { result ≡ copy_of (header_line image.now edition copy) }
 {
     let r = header_line(image, edition, copy)?;
-    copy_of(r)
+    copy_of(&r)
 }
 
 // The file header.

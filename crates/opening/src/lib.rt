@@ -48,7 +48,7 @@ fn footer_start(image: &[u8], edition: Edition, blocks: u32) -> Option<Chunk>
     let block = r.get(Name::Block)?;
     let c = said_at(image, block)?;
     let end = c.block as u64 + c.len as u64;
-    (end == blocks as u64 && is_footer(c, r)).then_some(c)
+    (end == blocks as u64 && is_footer(c, &r)).then_some(c)
 }
 
 // The start with the higher version, the lower block at a tie.

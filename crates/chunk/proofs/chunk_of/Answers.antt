@@ -103,7 +103,7 @@ pub returns-then-id-ge67108864 : goal.returns-then-id-ge67108864
 returns-then-id-ge67108864 c =
     let a = c.args in
     let given =
-    fit a.blocks a.b (Some a.r) (sym c.get.ensures ∙ c.in_ok-id.was) (sym c.get-2.ensures ∙ c.in_ok-block.was) (sym c.get-3.ensures ∙ c.in_ok-len.was) (sym c.get-4.ensures ∙ c.in_ok-next.was)
+    fit a.blocks a.b (Some a.r.now) (sym c.get.ensures ∙ c.in_ok-id.was) (sym c.get-2.ensures ∙ c.in_ok-block.was) (sym c.get-3.ensures ∙ c.in_ok-len.was) (sym c.get-4.ensures ∙ c.in_ok-next.was)
     (sym c.get-5.ensures ∙ c.in_ok-_pages.was) (sym c.get-6.ensures ∙ c.in_ok-root.was) (sym c.get-7.ensures ∙ c.in_ok-version.was) in
     elim c.then-id-ge67108864.branch [
       | then-id-ge67108864-via-then-id-ge67108864 w ↦ rw (given, le-ltb c.in_ok-id.id (2 ^ 26) (omega (arith, w.if-id-ge67108864.true)))
@@ -114,7 +114,7 @@ pub returns-then-len-lt1 : goal.returns-then-len-lt1
 returns-then-len-lt1 c =
     let a = c.args in
     let given =
-    fit a.blocks a.b (Some a.r) (sym c.get.ensures ∙ c.in_ok-id.was) (sym c.get-2.ensures ∙ c.in_ok-block.was) (sym c.get-3.ensures ∙ c.in_ok-len.was) (sym c.get-4.ensures ∙ c.in_ok-next.was)
+    fit a.blocks a.b (Some a.r.now) (sym c.get.ensures ∙ c.in_ok-id.was) (sym c.get-2.ensures ∙ c.in_ok-block.was) (sym c.get-3.ensures ∙ c.in_ok-len.was) (sym c.get-4.ensures ∙ c.in_ok-next.was)
     (sym c.get-5.ensures ∙ c.in_ok-_pages.was) (sym c.get-6.ensures ∙ c.in_ok-root.was) (sym c.get-7.ensures ∙ c.in_ok-version.was) in
     elim c.then-len-lt1.branch [
       | then-len-lt1-via-then-len-lt1 w ↦ rw given (simp (lt-leb 1 c.in_ok-len.len (omega (arith, w.if-len-lt1.true)), and-false))
@@ -125,7 +125,7 @@ pub returns : goal.returns
 returns c =
     let a = c.args in
     let given =
-    fit a.blocks a.b (Some a.r) (sym c.get.ensures ∙ c.in_ok-id.was) (sym c.get-2.ensures ∙ c.in_ok-block.was) (sym c.get-3.ensures ∙ c.in_ok-len.was) (sym c.get-4.ensures ∙ c.in_ok-next.was)
+    fit a.blocks a.b (Some a.r.now) (sym c.get.ensures ∙ c.in_ok-id.was) (sym c.get-2.ensures ∙ c.in_ok-block.was) (sym c.get-3.ensures ∙ c.in_ok-len.was) (sym c.get-4.ensures ∙ c.in_ok-next.was)
     (sym c.get-5.ensures ∙ c.in_ok-_pages.was) (sym c.get-6.ensures ∙ c.in_ok-root.was) (sym c.get-7.ensures ∙ c.in_ok-version.was) in
     rw (
       given,
@@ -133,5 +133,5 @@ returns c =
       eq-eqb c.in_ok-block.block a.b c.if-block-b.false,
       le-leb 1 c.in_ok-len.len (omega arith),
       le-leb (a.b + c.in_ok-len.len) a.blocks (omega arith),
-      add-one a.r.newline,
+      add-one a.r.now.newline,
     )

@@ -56,12 +56,12 @@ locate-returns-then-c-newest t c =
 pub locate-returns-then-q-need : goal.locate-returns-then-q-need
 locate-returns-then-q-need t c =
     let right = c.requires.1 in
-    (right, tells_few _ _ _ _ right (sym c.recall.ensures ∙ c.in-At.is) c.if-q-need.true)
+    (right, tells_few _ _ _ _ right (sym c.recall.ensures ∙ c.in-At.is) (omega arith))
 
 pub locate-returns-in-At : goal.locate-returns-in-At
 locate-returns-in-At t c =
     let right = c.requires.1 in
-    (right, tells_recalled _ _ _ _ right (sym c.recall.ensures ∙ c.in-At.is) c.if-q-need.false)
+    (right, tells_recalled _ _ _ _ right (sym c.recall.ensures ∙ c.in-At.is) (omega arith))
 
 pub locate-returns-then-q-eq0 : goal.locate-returns-then-q-eq0
 locate-returns-then-q-eq0 t c = (c.requires.1, tells_ninth _ _ _ _ c.if-c-newest.false c.if-q-eq0.true)
