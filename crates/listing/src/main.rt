@@ -2,136 +2,71 @@
 // decimal; or prints only `refused N`. The image is opened once, in the first edition, and walked once.
 #![tactic(auto)]
 
-use cursor::{Walk, Yield};
+use cursor::Walk;
 use key::Kind;
-use metadata::Id;
 use opening::{Store, View};
 use refusal::Refusal;
-use soundness::{Examined, Report};
-use viewing::Viewed;
+use std::io::{self, Read};
+use tree::Report;
 
 // Input over this many bytes is refused.
 const MOST_BYTES: usize = 65536;
 
-// The sign bit of a number key.
-const SIGN: u64 = 9223372036854775808;
-
-fn refused(n: u8) {
-    io::write_all(1, b"refused ");
-    io::print_decimal(1, n as u64);
-    io::write_all(1, b"\n");
+// A map that the examination passes.
+#[derive(Clone, Copy)]
+struct Examined {
+    store: Store,
+    id: u32,
+    report: Report,
 }
 
-fn named(name: &[u8], value: u64) {
-    io::write_all(1, name);
-    io::print_decimal(1, value);
-}
-
-// A number key by its 64 bits.
-fn print_key(bits: u64) {
-    if bits < SIGN {
-        io::print_decimal(1, bits);
-        return;
+// The map `forces` of an image.
+fn forces(image: &[u8]) -> Result<Examined, Refusal> {
+    if MOST_BYTES < image.len() {
+        return Err(Refusal::ImageSize);
     }
-    io::write_all(1, b"-");
-    io::print_decimal(1, 18446744073709551615 - bits + 1);
-}
-
-fn print_entry(image: &[u8], key: usize, len: usize) {
-    print_key(numeral::be64(image, key));
-    named(b" ", len as u64);
-    io::write_all(1, b"\n");
+    let store = viewing::open(image, View { edition: 1 })?;
+    let id = store::map_id(image, store, b"forces")?;
+    let report = store::examine(image, store, id, Kind::Number)?;
+    Ok(Examined { store, id, report })
 }
 
 // As many steps of the walk as the examination counted entries.
-fn list_entries(image: &[u8], s: Store, id: u32, entries: u64) {
-    let mut left = entries;
-    let mut w = Walk::fresh();
-    while 0 < left {
-        let step = store::advance(image, s, id, Kind::Number, w);
-        let y = step.got;
-        let Yield::Entry {
-            key,
-            size: _,
-            at: _,
-            len,
-        } = y
-        else {
-            return;
+fn list_entries(rt: &impl Print, image: &[u8], map: Examined) -> io::Result<()> {
+    let mut walk = Walk::fresh();
+    for _ in 0..map.report.entries {
+        let step = store::advance(image, map.store, map.id, Kind::Number, walk);
+        let Ok(Some(entry)) = step.got else {
+            break;
         };
-        print_entry(image, key, len);
-        w = step.walk;
-        left -= 1;
+        let key = numeral::be64(image, entry.key.at).cast_signed();
+        println!(rt; "{key} {}", entry.value.len)?;
+        walk = step.walk;
     }
+    Ok(())
 }
 
-fn list_map(image: &[u8], s: Store, id: u32, r: Report) {
-    let c = s.newest;
-    named(b"chunk ", c.id as u64);
-    named(b" block ", c.block as u64);
-    named(b" version ", c.version);
-    named(b"\nmap ", id as u64);
-    named(b" entries ", r.entries);
-    named(b" pages ", r.pages);
-    named(b" depth ", r.depth as u64);
-    io::write_all(1, b"\n");
-    list_entries(image, s, id, r.entries);
+fn list(rt: &impl Print, image: &[u8], map: Examined) -> io::Result<()> {
+    let chunk = map.store.newest;
+    println!(rt;
+        "chunk {} block {} version {}",
+        chunk.id, chunk.block, chunk.version
+    )?;
+    let report = map.report;
+    println!(rt;
+        "map {} entries {} pages {} depth {}",
+        map.id, report.entries, report.pages, report.depth
+    )?;
+    list_entries(rt, image, map)
 }
 
-// The map with an id, if the examination passes it.
-fn examined(image: &[u8], s: Store, id: u32) {
-    let e = store::examine(image, s, id, Kind::Number);
-    match e {
-        Examined::Passed(r) => {
-            list_map(image, s, id, r);
-        }
-        Examined::Refused(r) => {
-            refused(r.number);
-        }
+fn main(rt: HostRuntime) -> io::Result<()> {
+    // One byte more than an image may have.
+    let mut input = rt.reader().take(MOST_BYTES as u64 + 1);
+    let mut image = Vec::new(rt.alloc());
+    input.read_to_end(&mut image)?;
+    match forces(&image) {
+        Ok(map) => list(&rt, &image, map),
+        Err(refusal) => println!(rt; "{refusal}"),
     }
-}
-
-// The map `forces` of a store that is open.
-fn forces(image: &[u8], s: Store) {
-    let i = store::map_id(image, s, b"forces");
-    match i {
-        Id::Is(id) => {
-            examined(image, s, id);
-        }
-        Id::Refused(r) => {
-            refused(r.number);
-        }
-    }
-}
-
-fn listing(image: &[u8]) {
-    let o = viewing::open(image, View { edition: 1 });
-    match o {
-        Viewed::Is(s) => {
-            forces(image, s);
-        }
-        Viewed::Refused(r) => {
-            refused(r.number);
-        }
-    }
-}
-
-// Reads the input and lists it.
-fn run(buffer: &mut [u8]) {
-    let n = io::read_full(0, buffer);
-    if MOST_BYTES < n {
-        refused(Refusal::IMAGE_SIZE);
-        return;
-    }
-    listing(&buffer[..n]);
-}
-
-// The same with an array, whose length is known by its type: one byte more than an image may have.
-fn run_in(buffer: &mut [u8; MOST_BYTES + 1]) {
-    run(buffer);
-}
-
-fn main() {
-    let mut buffer = [0u8; MOST_BYTES + 1];
-    run_in(&mut buffer);
 }

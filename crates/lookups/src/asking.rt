@@ -1,72 +1,56 @@
 // The questions about an image.
-use super::output;
+use crate::answer::Answer;
+use crate::command::Command;
 use key::Kind;
-use metadata::Located;
 use opening::{Store, View};
 use position::Position;
 use refusal::Refusal;
 
 // `map HEX`.
-fn map(line: &[u8], image: &[u8], s: Store) {
-    let mut name = [0u8; 1024];
-    let n = script::bytes(line, 1, &mut name);
-    output::id(store::map_id(image, s, &name[..n]));
+fn map(command: Command<'_>, image: &[u8], store: Store) -> Result<Answer, Refusal> {
+    let mut name = [0; 1024];
+    let id = store::map_id(image, store, command.bytes(1, &mut name))?;
+    Ok(Answer::Id(id))
 }
 
-fn kind(line: &[u8]) -> Kind {
-    if script::number(line, 3, 10) == 0 {
-        Kind::Number
-    } else {
-        Kind::Text
-    }
+// `root ID`.
+fn root(command: Command<'_>, image: &[u8], store: Store) -> Result<Answer, Refusal> {
+    let position = store::map_root(image, store, command.number32(1))?;
+    Ok(Answer::Root(position))
+}
+
+// `chunk N`.
+fn chunk(command: Command<'_>, image: &[u8], store: Store) -> Result<Answer, Refusal> {
+    let place = store::chunk_place(image, store, command.number32(1))?;
+    Ok(Answer::Chunk(place))
 }
 
 // `page POSITION ID KIND`; position 0 is out of place.
-fn page(line: &[u8], image: &[u8], s: Store) {
+fn page(command: Command<'_>, image: &[u8], store: Store) -> Result<Answer, Refusal> {
     let position = Position {
-        bits: script::number(line, 1, 10),
+        bits: command.number(1),
     };
     if position.is_empty() {
-        output::refused(Refusal::new(Refusal::PLACE));
-        return;
+        return Err(Refusal::Place);
     }
-    match store::chunk_place(image, s, position.chunk()) {
-        Located::At(place) => {
-            let map = script::number32(line, 2, 10);
-            output::judged(page::judge(image, place, position, map, kind(line)));
-        }
-        Located::Refused(r) => output::refused(r),
-    }
+    let kind = match command.number(3) {
+        0 => Kind::Number,
+        _ => Kind::Text,
+    };
+    let place = store::chunk_place(image, store, position.chunk())?;
+    let page = page::judge(image, place, position, command.number32(2), kind)?;
+    Ok(Answer::Page(page))
 }
 
-fn question(line: &[u8], image: &[u8], s: Store) {
-    if script::is(line, b"open") {
-        output::newest(s.newest);
-        return;
-    }
-    if script::is(line, b"map") {
-        map(line, image, s);
-        return;
-    }
-    if script::is(line, b"root") {
-        output::root(store::map_root(image, s, script::number32(line, 1, 10)));
-        return;
-    }
-    if script::is(line, b"chunk") {
-        output::located(store::chunk_place(image, s, script::number32(line, 1, 10)));
-        return;
-    }
-    if script::is(line, b"page") {
-        page(line, image, s);
-        return;
-    }
-    output::unknown();
-}
-
-// The line that answers a question, in an image that is opened for it.
-pub fn answer(line: &[u8], image: &[u8], edition: u64) {
-    match viewing::open(image, View { edition }) {
-        Ok(s) => question(line, image, s),
-        Err(r) => output::refused(r),
+// What a question is answered in an image that is opened for it.
+pub fn answer(command: Command<'_>, image: &[u8], edition: u64) -> Result<Answer, Refusal> {
+    let store = viewing::open(image, View { edition })?;
+    match command.word(0) {
+        "open" => Ok(Answer::Newest(store.newest)),
+        "map" => map(command, image, store),
+        "root" => root(command, image, store),
+        "chunk" => chunk(command, image, store),
+        "page" => page(command, image, store),
+        _ => Ok(Answer::Unknown),
     }
 }

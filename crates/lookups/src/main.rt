@@ -19,83 +19,44 @@
 // An image's first line has its name; a question may also be answered by `refused N`.
 #![tactic(auto)]
 
+mod answer;
 mod asking;
-mod making;
-mod output;
+mod command;
+mod images;
 
-use making::Held;
+use command::Command;
+use images::Images;
+use std::io::{self, BufRead, BufReader};
 
-// The most bytes of the input.
-const MOST_INPUT: usize = 1000000;
-
-// The answer to a question.
-fn ask(line: &[u8], area: &[u8], held: Held) {
-    let size = held.size;
-    if size <= area.len() {
-        asking::answer(line, &area[..size], held.edition);
-    } else {
-        output::unknown();
+// Makes the images by a command, or answers it.
+fn take(rt: &impl Print, command: Command<'_>, images: &mut Images) -> io::Result<()> {
+    match command.word(0) {
+        "image" => {
+            images.begin(command.number(2))?;
+            println!(rt; "{}", command.word(1))?;
+        }
+        "like" => {
+            images.like()?;
+            println!(rt; "{}", command.word(1))?;
+        }
+        "keep" => images.keep()?,
+        "put" => images.put(command),
+        "cut" => images.cut(command.number(1) as usize),
+        "edition" => images.edition = command.number(1),
+        _ => match asking::answer(command, &images.image, images.edition) {
+            Ok(answer) => println!(rt; "{answer}")?,
+            Err(refusal) => println!(rt; "{refusal}")?,
+        },
     }
+    Ok(())
 }
 
-// Takes a line: what is held after it.
-fn take(line: &[u8], area: &mut [u8], base: &mut [u8], held: Held) -> Held {
-    if script::is(line, b"put") {
-        making::put(line, area);
-        return held;
+fn main(rt: HostRuntime) -> io::Result<()> {
+    let alloc = rt.alloc();
+    let mut images = Images::new(alloc);
+    for line in BufReader::new(alloc, rt.reader())?.lines(alloc) {
+        let line = line?;
+        take(&rt, Command::new(&line), &mut images)?;
     }
-    if script::is(line, b"like") {
-        output::begun(line);
-        return making::like(area, base, held);
-    }
-    if script::is(line, b"image") {
-        output::begun(line);
-        return making::begin(line, area, held);
-    }
-    if script::is(line, b"keep") {
-        return making::keep(area, base, held);
-    }
-    if script::is(line, b"cut") {
-        return held.cut(script::number(line, 1, 10) as usize);
-    }
-    if script::is(line, b"edition") {
-        return held.viewed(script::number(line, 1, 10));
-    }
-    ask(line, area, held);
-    held
-}
-
-fn take_all(input: &[u8], area: &mut [u8], base: &mut [u8]) {
-    let mut held = Held {
-        size: 0,
-        kept: 0,
-        edition: 1,
-    };
-    let mut at = 0;
-    while at < input.len() {
-        held = take(script::line(input, at), area, base, held);
-        at = script::next_line(input, at);
-    }
-}
-
-// Reads the input into one area and makes its images in the others.
-fn run(buffer: &mut [u8], area: &mut [u8], base: &mut [u8]) {
-    let n = io::read_full(0, buffer);
-    take_all(&buffer[..n], area, base);
-}
-
-// The same with arrays, whose lengths are known by their types.
-fn run_in(
-    buffer: &mut [u8; MOST_INPUT],
-    area: &mut [u8; making::MOST_BYTES],
-    base: &mut [u8; making::MOST_BYTES],
-) {
-    run(buffer, area, base);
-}
-
-fn main() {
-    let mut buffer = [0u8; MOST_INPUT];
-    let mut area = [0u8; making::MOST_BYTES];
-    let mut base = [0u8; making::MOST_BYTES];
-    run_in(&mut buffer, &mut area, &mut base);
+    Ok(())
 }

@@ -1,43 +1,49 @@
 // Questions about lines.
-use super::{MOST_BYTES, numbers, output};
+use crate::question::Question;
+use crate::yes_or_no;
+use line::{Fields, Name};
+use std::{fmt, io};
+
+// What a line says, as an answer: the value of each name, `-` where it is not given.
+#[derive(Clone, Copy)]
+struct Said(Fields);
+
+impl fmt::Display for Said {
+    fn fmt<W: fmt::Write>(&self, f: &mut fmt::Formatter<W>) -> fmt::Result {
+        for (i, name) in Name::ALL.into_iter().enumerate() {
+            if 0 < i {
+                f.write_str(" ")?;
+            }
+            match self.0.get(name) {
+                Some(value) => write!(f, "{value:x}")?,
+                None => f.write_str("-")?,
+            }
+        }
+        Ok(())
+    }
+}
 
 // `line BYTES`: the length of the line that the area begins with, and the place of the newline.
-fn of_area(question: &[u8]) {
-    let mut area = [0u8; MOST_BYTES];
-    let n = script::bytes(question, 1, &mut area);
-    match line::line_of(&area[..n]) {
-        Some(found) => output::numbers(&[found.len as u64, found.newline as u64]),
-        None => output::word(b"none"),
+pub fn of_area(rt: &(impl Print + AllocGlobal), question: Question<'_>) -> io::Result<()> {
+    let area = question.bytes(rt.alloc(), 1)?;
+    match line::line_of(&area) {
+        Some(line) => println!(rt; "{:x} {:x}", line.len, line.newline),
+        None => println!(rt; "none"),
     }
 }
 
 // `fields BYTES`: what the line says of each known name.
-fn fields(question: &[u8]) {
-    let mut area = [0u8; MOST_BYTES];
-    let n = script::bytes(question, 1, &mut area);
-    match line::read_fields(&area[..n]) {
-        Some(f) => output::fields(f),
-        None => output::word(b"bad"),
+pub fn fields(rt: &(impl Print + AllocGlobal), question: Question<'_>) -> io::Result<()> {
+    let line = question.bytes(rt.alloc(), 1)?;
+    match line::read_fields(&line) {
+        Some(fields) => println!(rt; "{}", Said(fields)),
+        None => println!(rt; "bad"),
     }
 }
 
 // `right EDITION BYTES`: whether the line ends with a right `fletcher`.
-fn right(question: &[u8]) {
-    let mut area = [0u8; MOST_BYTES];
-    let n = script::bytes(question, 2, &mut area);
-    output::yes(line::right_sum(numbers::edition(question), &area[..n]));
-}
-
-// Whether the question is one of these; then it is answered.
-pub fn answered(question: &[u8]) -> bool {
-    if script::is(question, b"line") {
-        of_area(question);
-    } else if script::is(question, b"fields") {
-        fields(question);
-    } else if script::is(question, b"right") {
-        right(question);
-    } else {
-        return false;
-    }
-    true
+pub fn right(rt: &(impl Print + AllocGlobal), question: Question<'_>) -> io::Result<()> {
+    let line = question.bytes(rt.alloc(), 2)?;
+    let right = line::right_sum(question.edition(), &line);
+    println!(rt; "{}", yes_or_no(right))
 }

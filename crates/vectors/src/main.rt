@@ -8,39 +8,45 @@
 mod keys;
 mod lines;
 mod numbers;
-mod output;
 mod positions;
+mod question;
 
-// The most bytes of a byte string: more than a question of 4,000 characters has.
-pub const MOST_BYTES: usize = 2048;
+use question::Question;
+use std::io::{self, BufRead, BufReader};
 
 // One answer line. A question that is not known is answered by `?`.
-fn answer(question: &[u8]) {
-    if numbers::answered(question) {
-        return;
+fn answer(rt: &(impl Print + AllocGlobal), question: Question<'_>) -> io::Result<()> {
+    match question.name() {
+        "sum" => numbers::sum(rt, question),
+        "fill" => numbers::fill(rt, question),
+        "words" => numbers::words(rt, question),
+        "hex" => numbers::hex(rt, question),
+        "digits" => numbers::digits(rt, question),
+        "be" => numbers::big_endian(rt, question),
+        "var" => numbers::var(rt, question),
+        "position" => positions::take_apart(rt, question),
+        "make" => positions::make(rt, question),
+        "bound" => positions::bound(rt, question),
+        "check" => positions::check(rt, question),
+        "line" => lines::of_area(rt, question),
+        "fields" => lines::fields(rt, question),
+        "right" => lines::right(rt, question),
+        "key" => keys::at(rt, question),
+        "wellformed" => keys::well_formed(rt, question),
+        "compare" => keys::compare(rt, question),
+        _ => println!(rt; "?"),
     }
-    if positions::answered(question) {
-        return;
-    }
-    if lines::answered(question) {
-        return;
-    }
-    if keys::answered(question) {
-        return;
-    }
-    output::word(b"?");
 }
 
-fn answer_all(questions: &[u8]) {
-    let mut at = 0;
-    while at < questions.len() {
-        answer(script::line(questions, at));
-        at = script::next_line(questions, at);
-    }
+fn yes_or_no(holds: bool) -> &'static str {
+    if holds { "yes" } else { "no" }
 }
 
-fn main() {
-    let mut buffer = io::large_buffer();
-    let n = io::read_full(0, &mut buffer);
-    answer_all(&buffer[..n]);
+fn main(rt: HostRuntime) -> io::Result<()> {
+    let alloc = rt.alloc();
+    for line in BufReader::new(alloc, rt.reader())?.lines(alloc) {
+        let line = line?;
+        answer(&rt, Question::new(&line))?;
+    }
+    Ok(())
 }

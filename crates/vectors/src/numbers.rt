@@ -1,131 +1,73 @@
 // Questions about sums and about numbers as the file writes them.
-use super::{MOST_BYTES, output};
-use fletcher::{Edition, Sums};
-use numeral::{Number, Numeral};
-
-// The edition that a question names first: 2, or else 1.
-pub fn edition(question: &[u8]) -> Edition {
-    if script::number(question, 1, 16) == 2 {
-        Edition::Second
-    } else {
-        Edition::First
-    }
-}
+use crate::question::Question;
+use fletcher::Sums;
+use std::io;
 
 // `sum EDITION BYTES`: the fletcher value.
-fn sum(question: &[u8]) {
-    let mut area = [0u8; MOST_BYTES];
-    let n = script::bytes(question, 2, &mut area);
-    output::number(fletcher::sum_text(edition(question), &area[..n]));
-}
-
-// The fletcher value of the first `n` bytes, or of all where there are fewer.
-fn sum_first(e: Edition, bytes: &[u8], n: usize) -> u64 {
-    if n < bytes.len() {
-        return fletcher::sum_text(e, &bytes[..n]);
-    }
-    fletcher::sum_text(e, bytes)
+pub fn sum(rt: &(impl Print + AllocGlobal), question: Question<'_>) -> io::Result<()> {
+    let text = question.bytes(rt.alloc(), 2)?;
+    let sum = fletcher::sum_text(question.edition(), &text);
+    println!(rt; "{sum:x}")
 }
 
 // `fill EDITION BYTE COUNT`: the fletcher value of a text of so many times the byte, at most 65,536.
-fn fill(question: &[u8]) {
-    let byte = (script::number(question, 2, 16) % 256) as u8;
-    let n = script::number(question, 3, 16) as usize;
-    let area = [byte; 65536];
-    output::number(sum_first(edition(question), &area, n));
-}
-
-// The sums after so many times the word.
-fn filled(w: u16, count: u64) -> Sums {
-    let mut t = Sums::new();
-    let mut left = count;
-    while 0 < left {
-        t = t.word(w);
-        left -= 1;
-    }
-    t
+pub fn fill(rt: &(impl Print + AllocGlobal), question: Question<'_>) -> io::Result<()> {
+    let byte = (question.number(2) % 256) as u8;
+    let count = question.number(3).min(65536) as usize;
+    let text = vec![in rt.alloc(); byte; count]?;
+    let sum = fletcher::sum_text(question.edition(), &text);
+    println!(rt; "{sum:x}")
 }
 
 // `words BYTE COUNT`: the value of the words of such a text, from sums that are taken a word at a time.
-fn words(question: &[u8]) {
-    let byte = script::number(question, 1, 16) % 256;
-    let t = filled((byte * 257) as u16, script::number(question, 2, 16) / 2);
-    output::number(t.second as u64 * 65536 + t.first as u64);
+pub fn words(rt: &impl Print, question: Question<'_>) -> io::Result<()> {
+    let byte = question.number(1) % 256;
+    let word = (byte * 257) as u16;
+    let mut sums = Sums::new();
+    for _ in 0..question.number(2) / 2 {
+        sums = sums.word(word);
+    }
+    let value = sums.second as u64 * 65536 + sums.first as u64;
+    println!(rt; "{value:x}")
 }
 
 // `hex BYTES`: the number that the text is.
-fn hex(question: &[u8]) {
-    let mut area = [0u8; MOST_BYTES];
-    let n = script::bytes(question, 1, &mut area);
-    let read = numeral::read_hex(&area[..n]);
-    match read {
-        Number::Value(value) => {
-            output::number(value);
-        }
-        Number::Bad => {
-            output::word(b"bad");
-        }
+pub fn hex(rt: &(impl Print + AllocGlobal), question: Question<'_>) -> io::Result<()> {
+    let text = question.bytes(rt.alloc(), 1)?;
+    match numeral::read_hex(&text) {
+        Some(value) => println!(rt; "{value:x}"),
+        None => println!(rt; "bad"),
     }
 }
 
 // `digits NUMBER`: the number as a text.
-fn digits(question: &[u8]) {
-    let d = numeral::write_hex(script::number(question, 1, 16));
-    let bytes = d.bytes;
-    let start = d.start;
-    output::bytes_from(&bytes, start);
+pub fn digits(rt: &impl Print, question: Question<'_>) -> io::Result<()> {
+    let digits = numeral::write_hex(question.number(1));
+    for byte in digits.bytes.iter().skip(digits.start) {
+        print!(rt; "{byte:02x}")?;
+    }
+    println!(rt;)
 }
 
 // `be WIDTH AT BYTES`: the big-endian number, 0 where its bytes do not all stand there.
-fn big_endian(question: &[u8]) {
-    let width = script::number(question, 1, 16);
-    let at = script::number(question, 2, 16) as usize;
-    let mut area = [0u8; MOST_BYTES];
-    let n = script::bytes(question, 3, &mut area);
-    if width == 2 {
-        output::number(numeral::be16(&area[..n], at) as u64);
-    } else if width == 4 {
-        output::number(numeral::be32(&area[..n], at) as u64);
-    } else {
-        output::number(numeral::be64(&area[..n], at));
-    }
+pub fn big_endian(rt: &(impl Print + AllocGlobal), question: Question<'_>) -> io::Result<()> {
+    let at = question.number(2) as usize;
+    let bytes = question.bytes(rt.alloc(), 3)?;
+    let value = match question.number(1) {
+        2 => numeral::be16(&bytes, at) as u64,
+        4 => numeral::be32(&bytes, at) as u64,
+        _ => numeral::be64(&bytes, at),
+    };
+    println!(rt; "{value:x}")
 }
 
 // `var LIMIT AT BYTES`: the variable-size number, and the place after it.
-fn var(question: &[u8]) {
-    let limit = script::number(question, 1, 16);
-    let at = script::number(question, 2, 16) as usize;
-    let mut area = [0u8; MOST_BYTES];
-    let n = script::bytes(question, 3, &mut area);
-    let read = numeral::read_var(&area[..n], at, limit);
-    match read {
-        Numeral::Read { value, next } => {
-            output::numbers(&[value, next as u64]);
-        }
-        Numeral::Bad => {
-            output::word(b"bad");
-        }
+pub fn var(rt: &(impl Print + AllocGlobal), question: Question<'_>) -> io::Result<()> {
+    let limit = question.number(1);
+    let at = question.number(2) as usize;
+    let bytes = question.bytes(rt.alloc(), 3)?;
+    match numeral::read_var(&bytes, at, limit) {
+        Some(n) => println!(rt; "{:x} {:x}", n.value, n.next),
+        None => println!(rt; "bad"),
     }
-}
-
-// Whether the question is one of these; then it is answered.
-pub fn answered(question: &[u8]) -> bool {
-    if script::is(question, b"sum") {
-        sum(question);
-    } else if script::is(question, b"fill") {
-        fill(question);
-    } else if script::is(question, b"words") {
-        words(question);
-    } else if script::is(question, b"hex") {
-        hex(question);
-    } else if script::is(question, b"digits") {
-        digits(question);
-    } else if script::is(question, b"be") {
-        big_endian(question);
-    } else if script::is(question, b"var") {
-        var(question);
-    } else {
-        return false;
-    }
-    true
 }

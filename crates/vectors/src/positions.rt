@@ -1,64 +1,46 @@
 // Questions about positions.
-use super::output;
+use crate::question::Question;
 use position::Position;
+use std::io;
 
 // `position NUMBER`: its chunk id, offset, length code and type.
-fn take_apart(question: &[u8]) {
+pub fn take_apart(rt: &impl Print, question: Question<'_>) -> io::Result<()> {
     let p = Position {
-        bits: script::number(question, 1, 16),
+        bits: question.number(1),
     };
-    output::numbers(&[
-        p.chunk() as u64,
-        p.offset() as u64,
-        p.code() as u64,
-        p.page_type() as u64,
-    ]);
+    println!(rt;
+        "{:x} {:x} {:x} {:x}",
+        p.chunk(),
+        p.offset(),
+        p.code(),
+        p.page_type()
+    )
 }
 
 // `make CHUNK OFFSET CODE TYPE`: the position with these fields.
-fn make(question: &[u8]) {
-    let made = Position::make(
-        script::number32(question, 1, 16),
-        script::number32(question, 2, 16),
-        script::number32(question, 3, 16),
-        script::number32(question, 4, 16),
-    );
-    match made {
-        Some(p) => output::number(p.bits),
-        None => output::word(b"bad"),
+pub fn make(rt: &impl Print, question: Question<'_>) -> io::Result<()> {
+    let chunk = question.number32(1);
+    let offset = question.number32(2);
+    let code = question.number32(3);
+    let page_type = question.number32(4);
+    match Position::make(chunk, offset, code, page_type) {
+        Some(p) => println!(rt; "{:x}", p.bits),
+        None => println!(rt; "bad"),
     }
 }
 
 // `bound CODE`: the most bytes under a length code.
-fn bound(question: &[u8]) {
-    match position::bound_of(script::number32(question, 1, 16)) {
-        Some(most) => output::number(most as u64),
-        None => output::word(b"none"),
+pub fn bound(rt: &impl Print, question: Question<'_>) -> io::Result<()> {
+    match position::bound_of(question.number32(1)) {
+        Some(most) => println!(rt; "{most:x}"),
+        None => println!(rt; "none"),
     }
 }
 
 // `check CHUNK OFFSET LENGTH`: a page's check value.
-fn check(question: &[u8]) {
-    let value = position::check_value(
-        script::number32(question, 1, 16),
-        script::number32(question, 2, 16),
-        script::number32(question, 3, 16),
-    );
-    output::number(value as u64);
-}
-
-// Whether the question is one of these; then it is answered.
-pub fn answered(question: &[u8]) -> bool {
-    if script::is(question, b"position") {
-        take_apart(question);
-    } else if script::is(question, b"make") {
-        make(question);
-    } else if script::is(question, b"bound") {
-        bound(question);
-    } else if script::is(question, b"check") {
-        check(question);
-    } else {
-        return false;
-    }
-    true
+pub fn check(rt: &impl Print, question: Question<'_>) -> io::Result<()> {
+    let chunk = question.number32(1);
+    let offset = question.number32(2);
+    let length = question.number32(3);
+    println!(rt; "{:x}", position::check_value(chunk, offset, length))
 }
