@@ -79,6 +79,7 @@ pub struct Report {
     pub pages: u64,
 }
 
+#[tactic(auto, unfolding(crate::specs::Exports::newest_out))]
 pub(crate) fn newest_out(s: Result<Store, Refusal>) -> Newest
     ensures { result ≡ newest_out s }
 {
@@ -103,6 +104,7 @@ pub(crate) fn newest_out(s: Result<Store, Refusal>) -> Newest
     }
 }
 
+#[tactic(auto, unfolding(crate::specs::Exports::value_out))]
 pub(crate) fn value_out(v: Result<Option<Spot>, Refusal>) -> Value
     ensures { result ≡ value_out v }
 {
@@ -128,6 +130,7 @@ pub(crate) fn value_out(v: Result<Option<Spot>, Refusal>) -> Value
     }
 }
 
+#[tactic(auto, unfolding(crate::specs::Exports::entry_out))]
 pub(crate) fn entry_out(i: Result<Item, Refusal>) -> Entry
     ensures { result ≡ entry_out i }
 {
@@ -161,6 +164,7 @@ pub(crate) fn entry_out(i: Result<Item, Refusal>) -> Entry
     }
 }
 
+#[tactic(auto, unfolding(crate::specs::Exports::count_out))]
 pub(crate) fn count_out(c: Result<u64, Refusal>) -> Count
     ensures { result ≡ count_out c }
 {
@@ -173,6 +177,7 @@ pub(crate) fn count_out(c: Result<u64, Refusal>) -> Count
     }
 }
 
+#[tactic(auto, unfolding(crate::specs::Exports::id_out))]
 pub(crate) fn id_out(i: Result<u32, Refusal>) -> Id
     ensures { result ≡ id_out i }
 {
@@ -232,6 +237,7 @@ fn item_out(item: Item, walk: Walk) -> Step
     }
 }
 
+#[tactic(auto, unfolding(crate::specs::Exports::step_out))]
 pub(crate) fn step_out(s: walk::Step) -> Step
     ensures { result ≡ step_out s }
 {
@@ -242,6 +248,7 @@ pub(crate) fn step_out(s: walk::Step) -> Step
     }
 }
 
+#[tactic(auto, unfolding(crate::specs::Exports::report_out))]
 pub(crate) fn report_out(e: Result<tree::Report, Refusal>) -> Report
     ensures { result ≡ report_out e }
 {
