@@ -14,14 +14,11 @@ use Rattle.text.specs.Text.{span, every, same, split}
 use Rattle.fletcher.specs.declared.Edition.TheVariants.{First, Second}
 use Rattle.fletcher.specs.Fletcher.{reduced, start, add_word, sums, fletcher_of}
 use Rattle.numeral.specs.declared.Numeral.{Numeral}
-use Rattle.numeral.specs.declared.Numeral.TheVariants as numeral
 use Rattle.numeral.specs.Hex.{digit_of, hex_from, shaped, hex_of}
 use Rattle.numeral.specs.BigEndian.{big_endian, big_endian_at}
 use Rattle.numeral.specs.Var.{continued, var_from, limited, var_at}
-use Rattle.position.specs.declared.Bound.{Bound}
-use Rattle.position.specs.declared.Bound.TheVariants.{Most, Unbounded}
 use Rattle.position.specs.Position.{chunk_of, offset_of, code_of, type_of, bound_of, folded, check_of}
-use Rattle.line.specs.Field.{Field, field_of}
+use Rattle.line.specs.Field.{Named, field_of}
 use Rattle.line.specs.Line.{trimmed, line_of}
 use Rattle.line.specs.Fields.{has, value_in, none_twice, all_fields, fields_of, read_of, last_comma, right_sum}
 use Rattle.line.specs.Reading.{number_of, slot_of}
@@ -29,7 +26,7 @@ use Rattle.key.specs.declared.Kind.TheVariants.{Number}
 use Rattle.key.specs.Key.{text, key_of, compare_keys}
 use Rattle.tree.specs.Page.{All}
 use Rattle.opening.specs.declared.header.Copy.{Copy}
-use Rattle.opening.specs.declared.header.Copy.TheVariants.{Names, Plain, NoCopy}
+use Rattle.opening.specs.declared.header.Copy.TheVariants.{Names, Plain}
 use Rattle.chunk.specs.Image.{header_line}
 use Rattle.opening.specs.Opening.{format_right, names_all, names_any, copy_of}
 
@@ -43,23 +40,23 @@ pub record Example : Type 0 where
   pub due : Answer
 
 -- ## Answers of the definitions
-abbrev of_numeral : Numeral → Answer
-of_numeral (numeral.Read v next) = numbers (v ∷ [])
-of_numeral numeral.Bad = refused
+abbrev of_number : Option ℕ → Answer
+of_number (Some n) = numbers (n ∷ [])
+of_number None = refused
 
-abbrev of_bound : Bound → Answer
-of_bound (Most n) = numbers (n ∷ [])
-of_bound Unbounded = refused
+abbrev of_numeral : Option Numeral → Answer
+of_numeral (Some n) = numbers (n.value ∷ [])
+of_numeral None = refused
 
-abbrev of_field : Option Field → Answer
-of_field None = refused
+abbrev of_field : Option Named → Answer
 of_field (Some f) = numbers (f.value ∷ [])
+of_field None = refused
 
 -- what a good copy says: block, chunk and version, or nothing
-abbrev of_copy : Copy → Answer
-of_copy NoCopy = refused
-of_copy Plain = numbers []
-of_copy (Names block chunk version) = numbers (block ∷ chunk ∷ version ∷ [])
+abbrev of_copy : Option Copy → Answer
+of_copy (Some Plain) = numbers []
+of_copy (Some (Names block chunk version)) = numbers (block ∷ chunk ∷ version ∷ [])
+of_copy None = refused
 
 -- ## Texts
 -- `chunk:1,block:2,version:1`
@@ -106,13 +103,13 @@ examples =
     example (numbers (fletcher_of First [] ∷ [])) (numbers (0xffffffff ∷ [])) ∷
     -- (d) position 4000004f8c: chunk 1, offset 318, code 6, leaf, at most 256 bytes
     example (numbers (chunk_of position ∷ offset_of position ∷ code_of position ∷ type_of position ∷ [])) (numbers (1 ∷ 318 ∷ 6 ∷ 0 ∷ [])) ∷
-    example (of_bound (bound_of (code_of position))) (numbers (256 ∷ [])) ∷
+    example (of_number (bound_of (code_of position))) (numbers (256 ∷ [])) ∷
     -- (e) that position with length 200: check 1f7
     example (numbers (check_of (chunk_of position) (offset_of position) 200 ∷ [])) (numbers (0x1f7 ∷ [])) ∷
     -- (f) codes 0, 1, 30
-    example (of_bound (bound_of 0)) (numbers (32 ∷ [])) ∷
-    example (of_bound (bound_of 1)) (numbers (48 ∷ [])) ∷
-    example (of_bound (bound_of 30)) (numbers (1048576 ∷ [])) ∷
+    example (of_number (bound_of 0)) (numbers (32 ∷ [])) ∷
+    example (of_number (bound_of 1)) (numbers (48 ∷ [])) ∷
+    example (of_number (bound_of 30)) (numbers (1048576 ∷ [])) ∷
     -- (g) bytes 80 00 refused as a number, 80 01 is 128
     example (of_numeral (var_at 0x80000000 (0x80 ∷ 0 ∷ []) 0)) refused ∷
     example (of_numeral (var_at 0x80000000 (0x80 ∷ 1 ∷ []) 0)) (numbers (128 ∷ [])) ∷
