@@ -1,10 +1,10 @@
 -- Laws of the walk's state, as the code tests and writes its places; and the states that a step leaves.
-use Rattle.std.specs.Prelude.{ℕ, suc, ◌+◌, ◌-◌, ◌≤◌, ◌<◌, ◌≡◌, refl, Bool, true, false, ◌&&◌, List, [], ◌∷◌, ◌++◌, eqb, leb, length, set, take, drop, replicate}
-use Rattle.std.proofs.Common.{◌∙◌, ap, true≢false, append_assoc, append-nil, arith, length-append, length-drop, length-set, length-take, drop_of_length-le, length-take-le, leb-true, lt-ltb}
+use Rattle.std.specs.Prelude.{ℕ, suc, ◌+◌, ◌-◌, ◌≤◌, ◌<◌, ◌≡◌, refl, Bool, true, false, ◌&&◌, List, [], ◌∷◌, ◌++◌, eqb, leb, length, get_or, set, take, drop, replicate}
+use Rattle.std.proofs.Common.{◌∙◌, ap, true≢false, append_assoc, append-nil, add-one, arith, take-suc, drop-cons, ne_eqb, length-append, length-drop, length-set, length-take, drop_of_length-le, length-take-le, leb-true, lt-ltb}
 use Rattle.std.specs.List.{list_all}
 use borrow.Rule.Slice.PartMut.{mid_of, put_mid}
 use Rattle.std.proofs.lemmas.Grind.{take-set_at}
-use Rattle.std.proofs.lemmas.List.{length-replicate, replicate-append-replicate}
+use Rattle.std.proofs.lemmas.List.{length-replicate, replicate-append-replicate, set_at}
 use Rattle.key.specs.Key.{Key}
 use Rattle.tree.proofs.WalkLaws.{prefixed}
 use Rattle.content.specs.declared.Entry.{Entry}
@@ -16,6 +16,31 @@ use Rattle.cursor.specs.Steps.{numbered}
 pub zeros_all : (ps : List ℕ) → zeros ps ≡ list_all (λ p. eqb p 0) ps
 zeros_all [] = refl
 zeros_all (p ∷ ps) = ap (eqb p 0 &&◌) (zeros_all ps)
+
+module _ (ps : List ℕ) (i : ℕ) where
+  pub zeros_end : length ps ≤ i → zeros (drop i ps) ≡ true
+  zeros_end h = rw (drop_of_length-le ps {i = i} h)
+
+  module _ (h : i < length ps) where
+    pub zeros_next : get_or ps i 0 ≡ 0 → zeros (drop (i + 1) ps) ≡ zeros (drop i ps)
+    zeros_next e = rw (drop-cons ps i 0 h, e, add-one i)
+
+    pub zeros_stop : (get_or ps i 0 ≡ 0 → ⊥) → zeros (drop i ps) ≡ false
+    zeros_stop e = rw (drop-cons ps i 0 h, ne_eqb (get_or ps i 0) 0 e)
+
+-- the places from l on are 0 yet: the number n there
+module _ (from : List ℕ) (l n : ℕ) (few : l ≤ length from) (room : l < 16) where
+  pub set_place : set (take l from ++ replicate (16 - l) 0) l n ≡ take l from ++ (n ∷ replicate (15 - l) 0)
+  set_place =
+      let left : 16 - l ≡ suc (15 - l) = omega arith in
+      rw left (set_at (take l from) 0 (replicate (15 - l) 0) n l (length-take-le l from few))
+
+pub copy_place : (from : List ℕ) (i : ℕ) → i < length from → i < 16
+    → set (take i from ++ replicate (16 - i) 0) i (get_or from i 0) ≡ take (i + 1) from ++ replicate (16 - (i + 1)) 0
+copy_place from i h room =
+    let rest : 16 - suc i ≡ 15 - i = omega arith in
+    set_place from i (get_or from i 0) (omega arith) room
+    ∙ rw (add-one i, rest, take-suc from i 0 h, append_assoc (take i from) (get_or from i 0 ∷ []) (replicate (15 - i) 0))
 
 -- n written at place l, and zeros over what is after it
 pub placed : (from : List ℕ) (l n : ℕ) {rest : List ℕ} → length from ≡ 16 → l < 16

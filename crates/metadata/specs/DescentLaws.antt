@@ -19,8 +19,10 @@ use Rattle.page.specs.Judged.{judged_at}
 use Rattle.text.specs.declared.spot.Spot.{Spot}
 use Rattle.content.specs.declared.Entry.{Entry}
 use Rattle.content.specs.Content.{keys_in, positions_in, counts_in, entries_in, page_of, page_in}
+use Rattle.metadata.specs.declared.Location.{Location}
+use Rattle.metadata.specs.declared.descent.Step.{Step}
 use Rattle.metadata.specs.declared.descent.Step.TheVariants as step
-use Rattle.metadata.specs.Descent.{step_of}
+use Rattle.metadata.specs.Descent.{step_of, advance_by, advance_of}
 
 -- ## A page
 module _ (image : List ℕ) (c : Place) (p map : ℕ) (kind : Kind) (k : Key) {j : Outcome Judged} (g : j ≡ judged_at image c p map kind) where
@@ -40,3 +42,9 @@ module _ (image : List ℕ) (c : Place) (p map : ℕ) (kind : Kind) (k : Key) {j
   unfolding step_of page_in page_of
   inner_leads {q} e {s} i a b =
       rw (← g, e, ← i, child_for-children_of compare_keys k (positions_in s (q.n + 1) q.positions) (counts_in s (q.n + 1) q.counts) (keys_in s kind q.n q.keys), b, a)
+
+-- ## A descent after it
+pub advance_step : (s : Place → Outcome Step) (need : ℕ) {l : Outcome Location} {x : Place} {n : ℕ} (most : ℕ) {t : Step} {u : Outcome Step}
+    → l ≡ Ok (record { place = x; need = n }) → most ≡ max need n → u ≡ s x → u ≡ Ok t → Ok (advance_by most t) ≡ advance_of s need l
+unfolding advance_of
+advance_step s need most e i h f = rw (e, i, ← h, f)

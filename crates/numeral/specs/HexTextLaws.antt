@@ -1,6 +1,6 @@
 -- Laws of the digits of a number.
 use Prim.Native.Nat.{ℕ, zero, suc, ◌+◌, ◌*◌, ◌-◌, ◌/◌, ◌%◌, ◌^◌, ◌<◌, ◌≤◌}
-use Rattle.std.specs.Prelude.{◌≡◌, refl, Bool, true, false, cond, ◌&&◌, List, [], ◌∷◌, ◌++◌, ltb, length, get_or, Option, Some, None}
+use Rattle.std.specs.Prelude.{◌≡◌, refl, Bool, true, false, cond, ◌&&◌, List, [], ◌∷◌, ◌++◌, ltb, length, get_or, Some, None}
 use Rattle.std.proofs.Common.{sym, ap, ◌∙◌, true≢false, append-nil, zero-add, add-zero, pow-suc, sub-one, arith, lt-ltb, le-ltb, ltb-true, ltb-false}
 use Rattle.text.specs.Text.{every}
 use Rattle.text.specs.Laws.{every_first}

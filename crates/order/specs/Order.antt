@@ -9,7 +9,7 @@
 --   compare_nat       unsigned numbers; bytes
 --   compare_int       signed numbers: kind 0 keys
 --   lex cmp           lists by their elements, a beginning before its extension: kind 1 keys
-use Rattle.std.specs.Prelude.{ℕ, ◌≡◌, Bool, true, false, cond, List, [], ◌∷◌, ltb, ℤ}
+use Rattle.std.specs.Prelude.{ℕ, ◌≡◌, Bool, cond, List, [], ◌∷◌, ltb, ℤ}
 use Rattle.std.specs.Int.Signed.{lt_z}
 use Rattle.std.specs.Ordering.{is_lt, ordering_reverse, ordering_then}
 use Rattle.std.specs.declared.cmp.Ordering.{Ordering}

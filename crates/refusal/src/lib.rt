@@ -60,7 +60,7 @@ pub struct NotInTable;
 impl TryFrom<u32> for Refusal {
     type Error = NotInTable;
 
-    ghost try_from_gives = { λ n r. r ≡ ok_or (refusal_of n) (record { }) };
+    ghost try_from_gives = { λ n r. r ≡ ok_or (refusal_of n) (record {}) };
 
     fn try_from(number: u32) -> Result<Self, NotInTable> {
         match number {

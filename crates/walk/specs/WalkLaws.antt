@@ -1,6 +1,7 @@
 -- Laws of one step, one for each way that the code takes.
 use Rattle.std.specs.Prelude.{ℕ, ◌≡◌, refl, List, Err, None, Ok, Option, Some}
 use Rattle.std.proofs.Common.{eq-eqb, ne_eqb}
+use Rattle.text.specs.Text.{within}
 use Rattle.refusal.specs.declared.Refusal.{Refusal}
 use Rattle.refusal.specs.Refusal.{Outcome, number_of, refusal_of}
 use Rattle.key.specs.declared.Kind.{Kind}
@@ -76,6 +77,9 @@ module _ (image : List ℕ) (view : View) (id : ℕ) (kind : Kind) (w : Walk) wh
       go (Ok root) = by root (numbers w)
 
 -- ## The call
+pub table_small : (n : ℕ) → within 1 16 n ≡ true → n ≤ 16
+table_small n t = leb-true n 16 ((and-eq-true_iff (leb 1 n) (leb n 16)).0 t).1
+
 module _ (image : List ℕ) (view : View) (map kind : ℕ) (w : Walk) where
   pub step_done : w.last ≡ done_number → (let x : Step = record { walk = w; next = Ok None } in x) ≡ step_of image view map kind w
   unfolding step_of recorded
