@@ -97,6 +97,12 @@ var_at_fits limit low s i h l =
     go (Some n) b = omega arith
     go None b = tt
 
+-- nor does a product or a sum on the way to it overflow
+pub var_at_room : (limit low : ℕ) (s : List ℕ) (i : ℕ) {n : Numeral} → low < limit → limit ≤ 2 ^ 64 →
+    var_at ((limit - low - 1) / 128 + 1) s i ≡ Some n → (n.value ≡ 0 → ⊥) → n.value * 128 + low < 2 ^ 64
+unfolding continued Fits64
+var_at_room limit low s i {n = n} h l e z = rw (e, ne_eqb n.value 0 z) at (var_at_fits limit low s i h l)
+
 -- no byte follows one that asks for another
 pub var_at_short : (limit : ℕ) (s : List ℕ) (i : ℕ) → i < length s → length s ≤ i + 1 → 128 ≤ get_or s i 0 → var_at limit s i ≡ None
 unfolding continued
