@@ -65,13 +65,7 @@ fn index_with(image: &[u8], memory: &mut [u64], m: Map, index: u64) -> Result<En
 }
 
 // The entry numbered `index` of the map, from 0.
-pub fn index(
-    image: &[u8],
-    store: Store,
-    map: u32,
-    kind: Kind,
-    index: u64,
-) -> Result<Entry, Refusal>
+pub fn index(image: &[u8], store: Store, map: u32, kind: Kind, index: u64) -> Result<Entry, Refusal>
     ensures { result ≡ fetched_of (index_in image.now store map kind index) }
 {
     let m = Map {

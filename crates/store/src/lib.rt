@@ -72,14 +72,7 @@ pub fn map_id(image: &[u8], store: Store, name: &[u8]) -> Result<u32, Refusal>
     let m = Map::metadata(store);
     let root = asked_root(store);
     let mut memory = many_words();
-    let f = descend(
-        image,
-        &mut memory,
-        m,
-        root,
-        &key.bytes[..key.len],
-        QUESTIONS,
-    );
+    let f = descend(image, &mut memory, m, root, key.text(), QUESTIONS);
     id_by(image, f)
 }
 

@@ -76,4 +76,4 @@ locate-settle-requires t c =
 pub locate-returns : goal.locate-returns
 locate-returns t c =
     let found = rw c.metadata-m.ensures at c.descend-f.ensures in
-    tells_settled _ _ _ _ _ _ c.if-c-newest.false c.if-q-eq0.false c.requires.0 found.0 _ (rw c.chunk_key-key.ensures (padded_text 22 (chunk_key c.args.c))) found.1 _ _ c.settle.ensures.0 c.settle.ensures.1
+    tells_settled _ _ _ _ _ _ c.if-c-newest.false c.if-q-eq0.false c.requires.0 found.0 _ (rw (c.text.ensures, c.chunk_key-key.ensures) (padded_text 22 (chunk_key c.args.c))) found.1 _ _ c.settle.ensures.0 c.settle.ensures.1

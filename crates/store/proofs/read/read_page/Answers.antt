@@ -16,19 +16,17 @@ locate-requires c = (omega arith, c.requires)
 pub returns-in_err-l : goal.returns-in_err-l
 returns-in_err-l c =
     let a = c.args in
-    let l = c.locate in
-    (
+    let l = c.locate in (
       l.ensures.0,
       handed_up c.from_residual.ensures
-      ∙ judged_nowhere a.image.now a.m.store a.m.id a.m.kind a.p.bits (full_other c.is_empty.ensures c.if-is_empty.false) _ c.chunk.ensures l.ensures.1 c.in_err-l.was,
+          ∙ judged_nowhere a.image.now a.m.store a.m.id a.m.kind a.p.bits (full_other c.is_empty.ensures c.if-is_empty.false) _ c.chunk.ensures l.ensures.1 c.in_err-l.was,
     )
 
 pub returns : goal.returns
 returns c =
     let a = c.args in
-    let l = c.locate in
-    (
+    let l = c.locate in (
       l.ensures.0,
       c.judge.ensures
-      ∙ judged_there a.image.now a.m.store a.m.id a.m.kind a.p.bits (full_other c.is_empty.ensures c.if-is_empty.false) _ c.chunk.ensures l.ensures.1 c.in_ok-l.was,
+          ∙ judged_there a.image.now a.m.store a.m.id a.m.kind a.p.bits (full_other c.is_empty.ensures c.if-is_empty.false) _ c.chunk.ensures l.ensures.1 c.in_ok-l.was,
     )

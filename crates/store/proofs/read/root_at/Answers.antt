@@ -13,4 +13,4 @@ descend-f-requires c = (omega arith, rw c.metadata-m.ensures c.requires)
 pub returns : goal.returns
 returns c =
     let found = rw (c.metadata-m.ensures, c.asked_root-root.ensures) at c.descend-f.ensures in
-    (found.0, c.root_by.ensures ∙ root_sought _ _ _ _ found.1 _ c.if-map-eq0.false (rw c.root_key-key.ensures (padded_text 22 (root_key c.args.map))))
+    (found.0, c.root_by.ensures ∙ root_sought _ _ _ _ found.1 _ c.if-map-eq0.false (rw (c.text.ensures, c.root_key-key.ensures) (padded_text 22 (root_key c.args.map))))
