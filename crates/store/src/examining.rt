@@ -89,6 +89,7 @@ fn examine_children(
     let mut counts = page.counts;
     let mut keys = page.keys;
     let mut j: u32 = 0;
+    // The last child ends the loop inside: a `for` would go to a child after it for its end.
     loop {
         let c = child_at(image, m.kind, page, j, counts, keys, span.hi);
         let under = Span { lo, hi: c.hi };

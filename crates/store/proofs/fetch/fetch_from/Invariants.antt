@@ -1,6 +1,5 @@
 use Prim.Native.Nat.{◌-◌}
 use mathlib.Core.Path.{◌≡◌}
-use lib.ListN.{length}
 use Rattle.tree.specs.Asking.{index, map_index}
 use Rattle.store.specs.Store.{pages_of}
 use Rattle.store.specs.Memory.{RightWords}
