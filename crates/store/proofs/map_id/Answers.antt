@@ -10,7 +10,7 @@ pub returns-then-name-gt-NAME : goal.returns-then-name-gt-NAME
 returns-then-name-gt-NAME c = sym (name_long _ _ _ c.if-name-gt-NAME.true)
 
 pub descend-f-requires : goal.descend-f-requires
-descend-f-requires c = (omega arith, rw c.many_words-memory.ensures (empty_right _ _ 8192))
+descend-f-requires c = (omega arith, empty_right _ _ 8192)
 
 pub returns : goal.returns
 returns c =
