@@ -3,6 +3,3 @@ use Rattle.store.proofs.map_root.Goals as goal
 
 pub root_at-requires : goal.root_at-requires
 root_at-requires c = empty_right _ _ 8192
-
-pub returns : goal.returns
-returns c = c.root_at.ensures.1
