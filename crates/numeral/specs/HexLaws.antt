@@ -4,7 +4,7 @@
 --   Shaped s  what `shaped s` says
 use Rattle.std.specs.Prelude.{ℕ, ◌+◌, ◌-◌, ◌<◌, ◌≤◌, ◌≡◌, Bool, cond, ◌&&◌, ◌||◌, List, ltb, length, get_or, Some, None}
 use Rattle.std.proofs.Math.Path.{refl}
-use Rattle.std.proofs.Common.{arith}
+use Rattle.std.proofs.Common.{◌∙◌, arith}
 use Rattle.std.proofs.Math.Bool.{true, false, not, and-false, true≢false}
 use borrow.Author.Tests.{le-leb, lt-leb, lt-ltb, le-ltb, ltb-true, ltb-false, eq-eqb, ne_eqb, eqb-false}
 use Rattle.std.proofs.Math.Dec.{eqb}
@@ -77,9 +77,17 @@ said_letter b l h = rw (digit_of_letter b l h, lt-ltb (b - 87) 16 (omega arith))
 pub said_other : (b : ℕ) → (48 ≤ b → b ≤ 57 → ⊥) → (97 ≤ b → b ≤ 102 → ⊥) → digit_said b ≡ None
 said_other b f g = rw (digit_of_other b f g)
 
+pub digit_of_lt : (b : ℕ) {d : ℕ} → d ≡ digit_of b → (d ≡ 16 → ⊥) → digit_of b < 16
+digit_of_lt b q f = go (kind b)
+  where
+    go : Kind b → digit_of b < 16
+    go (decimal l u e) = omega arith
+    go (letter l u e) = omega arith
+    go (other e) = absurd (f (q ∙ e))
+
 -- what has a value is a digit, and the value is the digit's
-pub digit_of_lt : (b : ℕ) {d : ℕ} → Some d ≡ digit_said b → (digit_of b < 16) × (d ≡ digit_of b)
-digit_of_lt b {d = d} q = go (ltb (digit_of b) 16) refl q
+pub digit_said_some : (b : ℕ) {d : ℕ} → Some d ≡ digit_said b → (digit_of b < 16) × (d ≡ digit_of b)
+digit_said_some b {d = d} q = go (ltb (digit_of b) 16) refl q
   where
     go : (t : Bool) → ltb (digit_of b) 16 ≡ t → Some d ≡ cond t (Some (digit_of b)) None → (digit_of b < 16) × (d ≡ digit_of b)
     go true e q = (ltb-true (digit_of b) 16 e, cc)

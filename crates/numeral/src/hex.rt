@@ -84,6 +84,7 @@ pub fn write_hex(n: u64) -> Digits
     let mut bytes = [0u8; 16];
     let mut start: usize = 16;
     let mut left = n;
+    // By what is left of the number, which no range counts.
     while 16 <= left {
         start -= 1;
         bytes[start] = digit_byte(left % 16);

@@ -3,7 +3,7 @@ use Rattle.std.specs.Prelude.{◌≡◌, List, length, get_or}
 use mathlib.Core.Path.{sym, ◌∙◌}
 use Rattle.std.proofs.Math.Nat.{pow-le-pow_right}
 use native.Mathlib.Omega.{arith}
-use Rattle.numeral.specs.HexLaws.{digit_of_lt, digit_of_none}
+use Rattle.numeral.specs.HexLaws.{digit_said_some, digit_of_none}
 use Rattle.numeral.specs.HexRunLaws.{Passed, run_stop, run_end, hex_run_at_none}
 use Rattle.numeral.specs.HexRunLaws.{passed_first, passed_all, passed_zero, passed_long, passed_more}
 use Rattle.numeral.proofs.hex.hex_at.Goals as goal
@@ -24,7 +24,7 @@ returns-in_err-value c =
 pub loop-i-init : goal.loop-i-init
 loop-i-init c =
     let first : c.in_ok-first.field-0.now ≡ get_or c.args.s.now c.args.at 0 = c.in_ok-first.ensures.lookup.3.1 0 in
-    let digit = digit_of_lt _ (sym c.in_ok-value.was ∙ c.digit_value.ensures) in
+    let digit = digit_said_some _ (sym c.in_ok-value.was ∙ c.digit_value.ensures) in
     rw (digit.1, first) (passed_first c.in_ok-first.ensures.lookup.3.0 (rw first at digit.0))
 
 pub returns-in_default : goal.returns-in_default
@@ -35,12 +35,12 @@ returns-in_default c =
 pub returns-then-first-eq48 : goal.returns-then-first-eq48
 returns-then-first-eq48 c =
     let first : c.in_ok-first.field-0.now ≡ get_or c.args.s.now c.args.at 0 = c.in_ok-first.ensures.lookup.3.1 0 in
-    let digit = digit_of_lt _ (sym c.in-Some.is ∙ c.digit_value-in-loop-i.ensures) in
+    let digit = digit_said_some _ (sym c.in-Some.is ∙ c.digit_value-in-loop-i.ensures) in
     sym (passed_zero c.loop-i.invariant (omega arith) digit.0 (sym first ∙ c.if-first-eq48.true))
 
 pub returns-then-i-at-eq16 : goal.returns-then-i-at-eq16
 returns-then-i-at-eq16 c =
-    let digit = digit_of_lt _ (sym c.in-Some.is ∙ c.digit_value-in-loop-i.ensures) in
+    let digit = digit_said_some _ (sym c.in-Some.is ∙ c.digit_value-in-loop-i.ensures) in
     sym (passed_long c.loop-i.invariant (omega arith) digit.0 (omega arith))
 
 pub overflow_mul-value : goal.overflow_mul-value
@@ -48,13 +48,13 @@ overflow_mul-value c = omega (arith, fits c.loop-i.invariant c.if-i-at-eq16.fals
 
 pub overflow_add-value : goal.overflow_add-value
 overflow_add-value c =
-    let digit = digit_of_lt _ (sym c.in-Some.is ∙ c.digit_value-in-loop-i.ensures) in
+    let digit = digit_said_some _ (sym c.in-Some.is ∙ c.digit_value-in-loop-i.ensures) in
     omega (arith, fits c.loop-i.invariant c.if-i-at-eq16.false)
 
 pub loop-i-preserved : goal.loop-i-preserved
 loop-i-preserved c =
     let first : c.in_ok-first.field-0.now ≡ get_or c.args.s.now c.args.at 0 = c.in_ok-first.ensures.lookup.3.1 0 in
-    let digit = digit_of_lt _ (sym c.in-Some.is ∙ c.digit_value-in-loop-i.ensures) in
+    let digit = digit_said_some _ (sym c.in-Some.is ∙ c.digit_value-in-loop-i.ensures) in
     rw digit.1 (passed_more c.loop-i.invariant (omega arith) digit.0 (λ z. c.if-first-eq48.false (first ∙ z)) c.if-i-at-eq16.false)
 
 pub returns : goal.returns
