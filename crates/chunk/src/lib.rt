@@ -26,6 +26,7 @@ pub struct Chunk {
 
 // The chunk that a header in block `b` says, if it has all the fields that are needed and fits the block
 // of an image of so many blocks. Its pages begin after the header's newline.
+#[tactic(auto, unfolding(crate::specs::Chunk::needed, crate::specs::Chunk::fitting))]
 fn chunk_of(blocks: u32, b: u32, r: &Reading) -> Option<Chunk>
     requires inside { b ≤ blocks }
     requires small { r.now.newline < 1024 }
@@ -58,6 +59,7 @@ fn chunk_of(blocks: u32, b: u32, r: &Reading) -> Option<Chunk>
 }
 
 // Whether a footer's reading is the footer of the chunk.
+#[tactic(auto, unfolding(crate::specs::Chunk::footer_of))]
 pub fn is_footer(c: Chunk, r: &Reading) -> bool
     ensures { result ≡ footer_of c (Some r.now) }
 {
@@ -67,6 +69,7 @@ pub fn is_footer(c: Chunk, r: &Reading) -> bool
 }
 
 // The chunk, if its footer stands where it ends.
+#[tactic(auto, unfolding(crate::specs::Chunk::footed, crate::specs::Chunk::footer_of))]
 fn with_footer(image: &[u8], edition: Edition, c: Chunk) -> Option<Chunk>
     requires { c.block + c.len < 2 ^ 32 }
     ensures { result ≡ footed image.now edition c }
@@ -76,6 +79,7 @@ fn with_footer(image: &[u8], edition: Edition, c: Chunk) -> Option<Chunk>
 }
 
 // The chunk that the header in block `b` says, whatever its footer is.
+#[tactic(auto, using(crate::specs::ChunkLaws::said_unread))]
 pub fn said_at(image: &[u8], b: u64) -> Option<Chunk>
     ensures { result ≡ said_at image.now b }
 {
@@ -89,6 +93,7 @@ pub fn said_at(image: &[u8], b: u64) -> Option<Chunk>
 }
 
 // The chunk that stands at block `b`.
+#[tactic(auto, unfolding(crate::specs::Chunk::stands_at))]
 pub fn stands_at(image: &[u8], edition: Edition, b: u64) -> Option<Chunk>
     ensures { result ≡ stands_at image.now edition b }
 {

@@ -41,6 +41,7 @@ fn header_start(image: &[u8], edition: Edition, copy: Copy) -> Option<Chunk>
 }
 
 // The chunk that the image's last footer names, if it ends where the image ends.
+#[tactic(auto, using(chunk::specs::ChunkLaws::stands_unsaid), unfolding(crate::specs::Opening::footer_start))]
 fn footer_start(image: &[u8], edition: Edition, blocks: u32) -> Option<Chunk>
     requires { blocks ≡ blocks_in image.now }
     ensures { result ≡ footer_start image.now edition }
@@ -90,7 +91,7 @@ fn follow(image: &[u8], edition: Edition, c: Chunk) -> Chunk
 }
 
 // The newest chunk of the image in an edition, or the refusal 2, 3 or 4.
-#[tactic(auto, unfolding(crate::specs::Opening::opened, crate::specs::Opening::newest_from))]
+#[tactic(auto, using(chunk::specs::ImageLaws::right_some), unfolding(crate::specs::Opening::opened, crate::specs::Opening::newest_from))]
 pub fn open(image: &[u8], edition: Edition) -> Result<Chunk, Refusal>
     ensures { result ≡ opened image.now edition }
 {

@@ -9,7 +9,7 @@ ghost use Rattle.store.specs.Asking.{lookup_in, index_in, count_in, value_of, fe
 use super::fetch::fetch_from;
 use super::locate::descend;
 use super::read::{read_page, root_at};
-use super::room::{SMALL, few_words, many_words};
+use super::room::{MANY, with_words};
 use super::{Map, QUESTIONS};
 use content::Entry;
 use key::Kind;
@@ -48,12 +48,7 @@ pub fn lookup(
         id: map,
         kind,
     };
-    if image.len() < SMALL {
-        let mut memory = few_words();
-        return lookup_with(image, &mut memory, m, key);
-    }
-    let mut memory = many_words();
-    lookup_with(image, &mut memory, m, key)
+    with_words(image, |memory| lookup_with(image, memory, m, key))
 }
 
 fn index_with(image: &[u8], memory: &mut [u64], m: Map, index: u64) -> Result<Entry, Refusal>
@@ -73,12 +68,7 @@ pub fn index(image: &[u8], store: Store, map: u32, kind: Kind, index: u64) -> Re
         id: map,
         kind,
     };
-    if image.len() < SMALL {
-        let mut memory = few_words();
-        return index_with(image, &mut memory, m, index);
-    }
-    let mut memory = many_words();
-    index_with(image, &mut memory, m, index)
+    with_words(image, |memory| index_with(image, memory, m, index))
 }
 
 // How many entries the page at the root has or records.
@@ -104,7 +94,7 @@ pub fn count(image: &[u8], store: Store, map: u32, kind: Kind) -> Result<u64, Re
         id: map,
         kind,
     };
-    let mut memory = many_words();
+    let mut memory = [0u64; MANY];
     let root = root_at(image, store, &mut memory, map)?;
     count_from(image, &mut memory, m, root)
 }

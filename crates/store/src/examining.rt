@@ -6,7 +6,7 @@ ghost use Rattle.store.specs.Examining.{tallied, over_children, examine_in, exam
 
 use super::Map;
 use super::read::{read_page, root_at};
-use super::room::{SMALL, few_words, many_words};
+use super::room::with_words;
 use key::Kind;
 use opening::Store;
 use page::Inner;
@@ -126,10 +126,5 @@ pub fn examine(image: &[u8], store: Store, map: u32, kind: Kind) -> Result<Repor
         id: map,
         kind,
     };
-    if image.len() < SMALL {
-        let mut memory = few_words();
-        return examine_with(image, &mut memory, m);
-    }
-    let mut memory = many_words();
-    examine_with(image, &mut memory, m)
+    with_words(image, |memory| examine_with(image, memory, m))
 }

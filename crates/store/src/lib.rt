@@ -26,7 +26,7 @@ use page::Place;
 use position::Position;
 use read::{asked_root, root_at};
 use refusal::Refusal;
-use room::many_words;
+use room::MANY;
 pub use walking::advance;
 
 // A map that is asked: by its store, its id and its kind.
@@ -57,7 +57,7 @@ pub const QUESTIONS: u32 = 8;
 pub fn chunk_place(image: &[u8], store: Store, chunk: u32) -> Result<Place, Refusal>
     ensures { result ≡ chunk_at image.now store 8 chunk }
 {
-    let mut memory = many_words();
+    let mut memory = [0u64; MANY];
     located_by(locate(image, store, &mut memory, chunk, QUESTIONS))
 }
 
@@ -71,15 +71,8 @@ pub fn map_id(image: &[u8], store: Store, name: &[u8]) -> Result<u32, Refusal>
     let key = name_key(name);
     let m = Map::metadata(store);
     let root = asked_root(store);
-    let mut memory = many_words();
-    let f = descend(
-        image,
-        &mut memory,
-        m,
-        root,
-        &key.bytes[..key.len],
-        QUESTIONS,
-    );
+    let mut memory = [0u64; MANY];
+    let f = descend(image, &mut memory, m, root, key.text(), QUESTIONS);
     id_by(image, f)
 }
 
@@ -87,6 +80,6 @@ pub fn map_id(image: &[u8], store: Store, name: &[u8]) -> Result<u32, Refusal>
 pub fn map_root(image: &[u8], store: Store, map: u32) -> Result<Position, Refusal>
     ensures { root_said result ≡ map_root image.now store map }
 {
-    let mut memory = many_words();
+    let mut memory = [0u64; MANY];
     root_at(image, store, &mut memory, map)
 }

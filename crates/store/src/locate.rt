@@ -40,7 +40,7 @@ pub(crate) fn locate(
     }
     let key = chunk_key(c);
     let m = Map::metadata(store);
-    let f = descend(image, memory, m, newest.root, &key.bytes[..key.len], q - 1);
+    let f = descend(image, memory, m, newest.root, key.text(), q - 1);
     settle(image, store.edition, memory, c, f)
 }
 

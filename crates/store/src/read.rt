@@ -54,6 +54,6 @@ pub(crate) fn root_at(
     }
     let key = root_key(map);
     let m = Map::metadata(store);
-    let f = descend(image, memory, m, root, &key.bytes[..key.len], QUESTIONS);
+    let f = descend(image, memory, m, root, key.text(), QUESTIONS);
     root_by(image, f)
 }

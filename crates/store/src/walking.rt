@@ -8,7 +8,7 @@ ghost use Rattle.store.specs.Walk.{step_in};
 use super::Map;
 use super::down::{down_by, leftmost_from};
 use super::read::root_at;
-use super::room::{SMALL, few_words, many_words};
+use super::room::with_words;
 use cursor::{Down, Stepped, Walk, is_formed, left_step, numbered};
 use key::Kind;
 use opening::Store;
@@ -69,10 +69,5 @@ pub fn advance(image: &[u8], store: Store, map: u32, kind: Kind, w: Walk) -> Ste
         id: map,
         kind,
     };
-    if image.len() < SMALL {
-        let mut memory = few_words();
-        return advance_with(image, &mut memory, m, w);
-    }
-    let mut memory = many_words();
-    advance_with(image, &mut memory, m, w)
+    with_words(image, |memory| advance_with(image, memory, m, w))
 }

@@ -2,7 +2,4 @@ use Rattle.store.specs.MemoryLaws.{empty_right}
 use Rattle.store.proofs.map_root.Goals as goal
 
 pub root_at-requires : goal.root_at-requires
-root_at-requires c = rw c.many_words-memory.ensures (empty_right _ _ 8192)
-
-pub returns : goal.returns
-returns c = c.root_at.ensures.1
+root_at-requires c = empty_right _ _ 8192

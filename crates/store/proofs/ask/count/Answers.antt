@@ -5,10 +5,7 @@ use Rattle.store.specs.AskLaws.{count_rooted, count_rootless}
 use Rattle.store.proofs.ask.count.Goals as goal
 
 pub root_at-requires : goal.root_at-requires
-root_at-requires c = rw c.many_words-memory.ensures (empty_right _ _ 8192)
-
-pub count_from-requires : goal.count_from-requires
-count_from-requires c = c.root_at.ensures.0
+root_at-requires c = empty_right _ _ 8192
 
 pub returns-in_err-root : goal.returns-in_err-root
 returns-in_err-root c =

@@ -10,9 +10,6 @@ returns-then-is_empty c =
     let a = c.args in
     count_empty a.image.now a.m.store a.m.id a.m.kind a.root.bits (empty_zero c.is_empty.ensures c.if-is_empty.true)
 
-pub read_page-requires : goal.read_page-requires
-read_page-requires c = c.requires
-
 pub returns-in_err-leaf : goal.returns-in_err-leaf
 returns-in_err-leaf c =
     let a = c.args in

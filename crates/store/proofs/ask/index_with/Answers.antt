@@ -3,12 +3,6 @@ use Rattle.refusal.proofs.Passing.{handed_up}
 use Rattle.store.specs.AskLaws.{index_rooted, index_rootless}
 use Rattle.store.proofs.ask.index_with.Goals as goal
 
-pub root_at-requires : goal.root_at-requires
-root_at-requires c = c.requires
-
-pub fetch_from-requires : goal.fetch_from-requires
-fetch_from-requires c = c.root_at.ensures.0
-
 pub returns-in_err-root : goal.returns-in_err-root
 returns-in_err-root c =
     let a = c.args in

@@ -1,15 +1,8 @@
 use mathlib.Core.Path.{◌∙◌}
-use native.Mathlib.Omega.{arith}
 use Rattle.refusal.proofs.Passing.{handed_up}
 use Rattle.key.specs.Key.{key_of}
 use Rattle.store.specs.AskLaws.{lookup_rooted, lookup_rootless}
 use Rattle.store.proofs.ask.lookup_with.Goals as goal
-
-pub root_at-requires : goal.root_at-requires
-root_at-requires c = c.requires
-
-pub descend-requires : goal.descend-requires
-descend-requires c = (omega arith, c.root_at.ensures.0)
 
 pub returns-in_err-root : goal.returns-in_err-root
 returns-in_err-root c =

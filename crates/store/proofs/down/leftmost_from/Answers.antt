@@ -1,15 +1,9 @@
 use native.Mathlib.Omega.{arith}
 use Rattle.refusal.proofs.Passing.{handed_up}
-use Rattle.store.specs.WayLaws.{lefting_start, lefting_deep, lefting_refused, lefting_entry, lefting_over}
+use Rattle.store.specs.WayLaws.{lefting_deep, lefting_refused, lefting_entry, lefting_over}
 use Rattle.store.specs.WayLaws.{lefting_empty, lefting_on}
 use Rattle.store.proofs.down.leftmost_from.Goals as goal
 use Rattle.store.proofs.down.leftmost_from.Goals.{in-Last, in-Last-2}
-
-pub loop-depth-init : goal.loop-depth-init
-loop-depth-init c = record {
-  right = c.requires.1;
-  way = lefting_start c.args.image.now c.args.m.store c.args.m.id c.args.m.kind c.args.level c.args.p.bits c.requires.0;
-}
 
 pub returns-in_err-entry : goal.returns-in_err-entry
 returns-in_err-entry c =

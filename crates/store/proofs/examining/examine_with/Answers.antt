@@ -5,9 +5,6 @@ use Rattle.store.specs.ExamineLaws.{map_refused, map_empty, map_examined}
 use Rattle.position.specs.Laws.{empty_zero, full_other}
 use Rattle.store.proofs.examining.examine_with.Goals as goal
 
-pub root_at-requires : goal.root_at-requires
-root_at-requires c = c.requires
-
 pub returns-in_err-root : goal.returns-in_err-root
 returns-in_err-root c =
     let a = c.args in

@@ -21,9 +21,6 @@ loop-init c =
       same = index_root a.image.now a.m.store a.m.id a.m.kind a.index a.root.bits (full_other c.is_empty.ensures c.if-is_empty.false);
     }
 
-pub read_page-requires : goal.read_page-requires
-read_page-requires c = c.loop.invariant.right
-
 pub returns-in_err-page : goal.returns-in_err-page
 returns-in_err-page c =
     let a = c.args in

@@ -24,9 +24,6 @@ descend-returns-then-is_empty-2 t c =
     let l = c.loop in
     (l.invariant.right, sought_zero _ _ _ _ _ _ _ (16 - l.counter) _ (omega arith) (empty_zero c.is_empty-in-loop.ensures c.if-is_empty-2.true) l.invariant.came)
 
-pub descend-locate-l-requires : goal.descend-locate-l-requires
-descend-locate-l-requires t c = (omega arith, (omega (arith, c.requires.0), c.loop.invariant.right))
-
 pub descend-returns-in_err-position : goal.descend-returns-in_err-position
 descend-returns-in_err-position t c =
     let on = sought_refused _ _ _ _ _ _ _ _ _ _ _ _ _ (omega arith) (full_other c.is_empty-in-loop.ensures c.if-is_empty-2.false) c.loop.invariant.came c.chunk.ensures c.locate-l.ensures.1 c.advance_at.ensures in
@@ -66,9 +63,6 @@ locate-returns-in-At t c =
 pub locate-returns-then-q-eq0 : goal.locate-returns-then-q-eq0
 locate-returns-then-q-eq0 t c = (c.requires.1, tells_ninth _ _ _ _ c.if-c-newest.false c.if-q-eq0.true)
 
-pub locate-descend-f-requires : goal.locate-descend-f-requires
-locate-descend-f-requires t c = (omega arith, (omega (arith, c.requires.0), rw c.metadata-m.ensures c.requires.1))
-
 pub locate-settle-requires : goal.locate-settle-requires
 locate-settle-requires t c =
     omega (arith, sought_few _ _ _ _ _ _ _ _ c.descend-f.ensures.1, c.requires.0)
@@ -76,4 +70,4 @@ locate-settle-requires t c =
 pub locate-returns : goal.locate-returns
 locate-returns t c =
     let found = rw c.metadata-m.ensures at c.descend-f.ensures in
-    tells_settled _ _ _ _ _ _ c.if-c-newest.false c.if-q-eq0.false c.requires.0 found.0 _ (rw c.chunk_key-key.ensures (padded_text 22 (chunk_key c.args.c))) found.1 _ _ c.settle.ensures.0 c.settle.ensures.1
+    tells_settled _ _ _ _ _ _ c.if-c-newest.false c.if-q-eq0.false c.requires.0 found.0 _ (rw (c.text.ensures, c.chunk_key-key.ensures) (padded_text 22 (chunk_key c.args.c))) found.1 _ _ c.settle.ensures.0 c.settle.ensures.1

@@ -1,5 +1,4 @@
 use mathlib.Core.Path.{◌∙◌}
-use native.Mathlib.Omega.{arith}
 use Rattle.refusal.proofs.Passing.{handed_up}
 use Rattle.store.specs.ReadLaws.{judged_zero, judged_there, judged_nowhere}
 use Rattle.position.specs.Laws.{empty_zero, full_other}
@@ -9,9 +8,6 @@ pub returns-then-is_empty : goal.returns-then-is_empty
 returns-then-is_empty c =
     let a = c.args in
     (c.requires, judged_zero a.image.now a.m.store a.m.id a.m.kind a.p.bits (empty_zero c.is_empty.ensures c.if-is_empty.true))
-
-pub locate-requires : goal.locate-requires
-locate-requires c = (omega arith, c.requires)
 
 pub returns-in_err-l : goal.returns-in_err-l
 returns-in_err-l c =
