@@ -25,7 +25,7 @@ pub(crate) fn down_by(
     let mut left = None;
     for level in 0..w.depth {
         let i = w.places[level as usize];
-        let page = read_page(image, memory, m, p)?;
+        let page = read_page(image, memory, m, p);
         match after_at(image, m.kind, page, i, level + 1 == w.depth)? {
             After::Entry(entry) => {
                 return Ok(Down::Entry {
@@ -63,8 +63,8 @@ pub(crate) fn leftmost_from(
 {
     let mut q = p;
     for depth in level..16 {
-        let page = read_page(image, memory, m, q)?;
-        match first_at(image, m.kind, page) {
+        let page = read_page(image, memory, m, q);
+        match first_at(image, m.kind, page)? {
             After::Entry(entry) => {
                 let depth = depth + 1;
                 return Ok(Some(Leftmost { depth, entry }));

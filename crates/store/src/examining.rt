@@ -62,7 +62,7 @@ fn examine_page(
     if levels == 0 {
         return Err(Refusal::TooDeep);
     }
-    let page = read_page(image, memory, m, p)?;
+    let page = read_page(image, memory, m, p);
     match part_at(image, m.kind, page, span, top)? {
         Part::Leaf(report) => Ok(report),
         Part::Children(inner) => {

@@ -1,10 +1,10 @@
 use Prim.Native.Nat.{◌-◌}
-use mathlib.Core.Path.{refl, sym, ◌∙◌, ap}
+use mathlib.Core.Path.{refl, ◌∙◌, ap}
 use native.Mathlib.Omega.{arith}
 use borrow.Author.Rules.{rules}
 use Rattle.refusal.proofs.Passing.{handed_up}
 use Rattle.store.specs.Examining.{over_children}
-use Rattle.store.specs.ExamineLaws.{examined_deep, examined_refused, page_refused, page_leaf, page_under}
+use Rattle.store.specs.ExamineLaws.{examined_deep, page_refused, page_leaf, page_under}
 use Rattle.store.specs.CameLaws.{came_first, came_fits, came_stopped, came_last, came_on, over_fits}
 use Rattle.store.proofs.examining.+examine_children_examine_page.Goals as goal
 
@@ -70,31 +70,22 @@ examine_page-returns-then-levels-eq0 t c =
       examined_deep a.image.now a.m.store a.m.id a.m.kind a.levels a.top a.span a.p.bits c.if-levels-eq0.true,
     )
 
-pub examine_page-returns-in_err-page : goal.examine_page-returns-in_err-page
-examine_page-returns-in_err-page t c =
-    let a = c.args in
-    let e = c.read_page.ensures in (
-      e.0,
-      handed_up c.from_residual.ensures ∙ examined_refused a.image.now a.m.store a.m.id a.m.kind a.levels a.top a.span a.p.bits
-          c.if-levels-eq0.false e.1 c.in_err-page.was,
-    )
-
 pub examine_page-returns-in_err-report : goal.examine_page-returns-in_err-report
 examine_page-returns-in_err-report t c =
     let a = c.args in
-    let e = c.read_page.ensures in (
+    let e = c.read_page-page.ensures in (
       e.0,
-      handed_up c.from_residual-in_err-report.ensures ∙ page_refused a.image.now a.m.store a.m.id a.m.kind a.levels a.top a.span a.p.bits
-          c.if-levels-eq0.false (sym c.in_ok-page.was ∙ e.1) c.part_at.ensures c.in_err-report.was,
+      handed_up c.from_residual.ensures ∙ page_refused a.image.now a.m.store a.m.id a.m.kind a.levels a.top a.span a.p.bits
+          c.if-levels-eq0.false e.1 c.part_at.ensures c.in_err-report.was,
     )
 
 pub examine_page-returns-in-Leaf : goal.examine_page-returns-in-Leaf
 examine_page-returns-in-Leaf t c =
     let a = c.args in
-    let e = c.read_page.ensures in (
+    let e = c.read_page-page.ensures in (
       e.0,
       page_leaf a.image.now a.m.store a.m.id a.m.kind a.levels a.top a.span a.p.bits
-          c.if-levels-eq0.false (sym c.in_ok-page.was ∙ e.1) c.part_at.ensures (rw c.in-Leaf.is at c.in_ok-report.was),
+          c.if-levels-eq0.false e.1 c.part_at.ensures (rw c.in-Leaf.is at c.in_ok-report.was),
     )
 
 pub examine_page-examine_children-requires : goal.examine_page-examine_children-requires
@@ -102,18 +93,18 @@ examine_page-examine_children-requires t c =
     let a = c.args in
     let g = c.requires in
     let if1 = c.if-levels-eq0 in
-    let e = c.read_page.ensures in
+    let e = c.read_page-page.ensures in
     let u = page_under a.image.now a.m.store a.m.id a.m.kind a.levels a.top a.span a.p.bits
-    if1.false (sym c.in_ok-page.was ∙ e.1) c.part_at.ensures (rw c.in-Children.is at c.in_ok-report.was) in
+    if1.false e.1 c.part_at.ensures (rw c.in-Children.is at c.in_ok-report.was) in
     (omega (arith, if1.false), (omega (arith, g.0, if1.false), e.0, u.all))
 
 pub examine_page-over_children-requires : goal.examine_page-over_children-requires
 examine_page-over_children-requires t c =
     let a = c.args in
     let if1 = c.if-levels-eq0 in
-    let e = c.read_page.ensures in
+    let e = c.read_page-page.ensures in
     let u = page_under a.image.now a.m.store a.m.id a.m.kind a.levels a.top a.span a.p.bits
-    if1.false (sym c.in_ok-page.was ∙ e.1) c.part_at.ensures (rw c.in-Children.is at c.in_ok-report.was) in
+    if1.false e.1 c.part_at.ensures (rw c.in-Children.is at c.in_ok-report.was) in
     over_fits a.image.now a.m.store a.m.id a.m.kind (a.levels - 1) c.in-Children.inner a.span.lo a.span.hi
     (omega (arith, c.requires.0, if1.false))
     u.all c.examine_children.ensures.1
@@ -121,8 +112,8 @@ examine_page-over_children-requires t c =
 pub examine_page-returns-in-Children : goal.examine_page-returns-in-Children
 examine_page-returns-in-Children t c =
     let a = c.args in
-    let e = c.read_page.ensures in
+    let e = c.read_page-page.ensures in
     let f = c.examine_children.ensures in
     let u = page_under a.image.now a.m.store a.m.id a.m.kind a.levels a.top a.span a.p.bits
-    c.if-levels-eq0.false (sym c.in_ok-page.was ∙ e.1) c.part_at.ensures (rw c.in-Children.is at c.in_ok-report.was) in
+    c.if-levels-eq0.false e.1 c.part_at.ensures (rw c.in-Children.is at c.in_ok-report.was) in
     (f.0, c.over_children.ensures ∙ ap over_children f.1 ∙ u.children)
