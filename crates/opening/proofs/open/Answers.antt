@@ -6,5 +6,5 @@ use Rattle.opening.proofs.open.Goals as goal
 pub footer_start-by_footer-requires : goal.footer_start-by_footer-requires
 footer_start-by_footer-requires c =
     let h = c.in_ok-blocks.ensures.ok_part in
-    let some : c.blocks_in.result ≡ Some c.in_ok-blocks.blocks = cc in
-    sym (right_some c.args.image.now (sym c.blocks_in.ensures ∙ some))
+    let some : c.right_blocks.result ≡ Some c.in_ok-blocks.blocks = cc in
+    sym (right_some c.args.image.now (sym c.right_blocks.ensures ∙ some))
