@@ -3,11 +3,11 @@
 
 mod image;
 
-ghost use Rattle.std.specs.Prelude.{◌+◌, ◌^◌, ◌<◌, ◌≤◌, ◌≡◌, Some};
+ghost use Rattle.std.specs.Prelude.{◌+◌, ◌^◌, ◌<◌, ◌≤◌, ◌≡◌, option_copied, Some};
 ghost use Rattle.chunk.specs.Chunk.{told, footer_of, footed, stands_at, said_at, kept, has_id};
 
 use fletcher::Edition;
-pub use image::{Reading, blocks_in, chunk_line, footer_line, header_line};
+pub use image::{Reading, blocks_in, chunk_line, footer_line, header_line, right_blocks, says};
 use line::Name;
 use position::Position;
 
@@ -58,24 +58,22 @@ fn chunk_of(blocks: u32, b: u32, r: &Reading) -> Option<Chunk>
     })
 }
 
-// Whether a footer's reading is the footer of the chunk.
-#[tactic(auto, unfolding(crate::specs::Chunk::footer_of))]
-pub fn is_footer(c: Chunk, r: &Reading) -> bool
-    ensures { result ≡ footer_of c (Some r.now) }
+// Whether a footer's reading, which may be none, is the footer of the chunk.
+pub fn is_footer(c: Chunk, r: Option<&Reading>) -> bool
+    ensures { result ≡ footer_of c (option_copied r.entry) }
 {
     let id = c.id as u64;
     let block = c.block as u64;
-    r.says(Name::Chunk, id) && r.says(Name::Block, block) && r.says(Name::Version, c.version)
+    says(r, Name::Chunk, id) && says(r, Name::Block, block) && says(r, Name::Version, c.version)
 }
 
 // The chunk, if its footer stands where it ends.
-#[tactic(auto, unfolding(crate::specs::Chunk::footed, crate::specs::Chunk::footer_of))]
 fn with_footer(image: &[u8], edition: Edition, c: Chunk) -> Option<Chunk>
     requires { c.block + c.len < 2 ^ 32 }
     ensures { result ≡ footed image.now edition c }
 {
-    let r = footer_line(image, edition, c.block + c.len)?;
-    is_footer(c, &r).then_some(c)
+    let r = footer_line(image, edition, c.block + c.len);
+    is_footer(c, r.as_ref()).then_some(c)
 }
 
 // The chunk that the header in block `b` says, whatever its footer is.
@@ -83,7 +81,7 @@ fn with_footer(image: &[u8], edition: Edition, c: Chunk) -> Option<Chunk>
 pub fn said_at(image: &[u8], b: u64) -> Option<Chunk>
     ensures { result ≡ said_at image.now b }
 {
-    let blocks = blocks_in(image)?;
+    let blocks = right_blocks(image)?;
     if b < 2 || blocks as u64 <= b {
         return None;
     }
