@@ -3,18 +3,21 @@ use Rattle.std.specs.Prelude.{ℕ, ◌^◌, ◌<◌, ◌≡◌, List, replicate}
 use Rattle.locating.specs.Known.{Known}
 use Rattle.opening.specs.declared.Store.{Store}
 use Rattle.page.specs.declared.Place.{Place}
-use Rattle.memory.specs.declared.Recalled.TheVariants.{At}
+use Rattle.memory.specs.declared.Recalled.{Recalled}
+use Rattle.memory.specs.declared.Recalled.TheVariants as recalled
 use Rattle.memory.specs.Words.{recalled_in, remembered_in}
 use Rattle.memory.specs.WordsLaws.{empty_holds, recalled_holds, remembered_holds}
 use Rattle.store.specs.Store.{metadata}
-use Rattle.store.specs.Memory.{RightWords}
+use Rattle.store.specs.Memory.{RightWords, IsRecalled}
 
 pub empty_right : (image : List ℕ) (store : Store) (n : ℕ) → RightWords image store (replicate n 0)
 empty_right image store n = record { known = empty_holds (Known (metadata image store)) n }
 
 module _ (image : List ℕ) (store : Store) {ws : List ℕ} (right : RightWords image store ws) (c : ℕ) where
-  pub recalled_known : {l : Place} {need : ℕ} → recalled_in ws c ≡ At l need → Known (metadata image store) c l need
-  recalled_known e = recalled_holds (Known (metadata image store)) ws right.known c e
+  pub recalled_known : (r : Recalled) → recalled_in ws c ≡ r → IsRecalled image store c r
+  recalled_known (recalled.At l need) e = recalled_holds (Known (metadata image store)) ws right.known c e
+  recalled_known (recalled.Free i) e = tt
+  recalled_known recalled.Full e = tt
 
   pub remembered_right : (l : Place) (need : ℕ) → l.block < 2 ^ 28 → l.first < 2 ^ 32 → need < 16 →
       Known (metadata image store) c l need → RightWords image store (remembered_in ws c l need)

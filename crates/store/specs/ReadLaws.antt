@@ -10,7 +10,6 @@ use Rattle.key.specs.declared.Kind.{Kind}
 use Rattle.opening.specs.declared.Store.{Store}
 use Rattle.tree.specs.Page.{branch}
 use Rattle.page.specs.declared.Place.{Place}
-use Rattle.page.specs.declared.Judged.{Judged}
 use Rattle.page.specs.Judged.{judged_at}
 use Rattle.content.specs.Content.{page_of, page_in}
 use Rattle.content.specs.WholeLaws.{Whole, judged_whole}

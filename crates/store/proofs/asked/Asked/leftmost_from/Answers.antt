@@ -1,0 +1,73 @@
+use Rattle.std.proofs.Common.{◌≡◌, refl, ap, ◌∙◌, arith}
+use Rattle.refusal.proofs.Passing.{handed_up}
+use Rattle.store.specs.WayLaws.{lefting_start, lefting_deep, lefting_refused, lefting_entry, lefting_over}
+use Rattle.store.specs.WayLaws.{lefting_empty, lefting_on}
+use Rattle.store.proofs.asked.Asked.leftmost_from.Goals as goal
+use Rattle.store.proofs.asked.Asked.leftmost_from.Goals.{in-Last, in-Last-2}
+
+pub loop-depth-init : goal.loop-depth-init
+loop-depth-init c = record {
+  same = refl;
+  way = lefting_start _ _ _ _ _ _ c.requires;
+}
+
+pub returns-in_err-page : goal.returns-in_err-page
+returns-in_err-page c =
+    let read = rw c.loop-depth.invariant.same at c.read_page.ensures in (
+      read.0,
+      rw (handed_up c.from_residual.ensures) (lefting_refused _ _ _ _ c.loop-depth.invariant.way (omega arith) read.1 c.in_err-page.was),
+    )
+
+pub returns-in-Entry : goal.returns-in-Entry
+returns-in-Entry c =
+    let read = rw c.loop-depth.invariant.same at c.read_page.ensures in
+    let seen = c.self.view_is ∙ read.0 in
+    let image : c.self.inside.image.now ≡ c.args.self.now.image = ap (λ s. s.image) seen in
+    let map : c.self.inside.map ≡ c.args.self.now.map = ap (λ s. s.map) seen in
+    let first = rw (image, map) at c.first_at.ensures in (
+      read.0,
+      lefting_entry _ _ _ _ c.loop-depth.invariant.way (omega arith) read.1 c.in_ok-page.was first c.in-Entry.is,
+    )
+
+pub returns-in-Over : goal.returns-in-Over
+returns-in-Over c =
+    let read = rw c.loop-depth.invariant.same at c.read_page.ensures in
+    let seen = c.self.view_is ∙ read.0 in
+    let image : c.self.inside.image.now ≡ c.args.self.now.image = ap (λ s. s.image) seen in
+    let map : c.self.inside.map ≡ c.args.self.now.map = ap (λ s. s.map) seen in
+    let first = rw (image, map) at c.first_at.ensures in (
+      read.0,
+      lefting_over _ _ _ _ c.loop-depth.invariant.way (omega arith) read.1 c.in_ok-page.was first c.in-Over.is
+          c.if-depth-eq0.true,
+    )
+
+pub returns-in-Over-2 : goal.returns-in-Over-2
+returns-in-Over-2 c =
+    let read = rw c.loop-depth.invariant.same at c.read_page.ensures in
+    let seen = c.self.view_is ∙ read.0 in
+    let image : c.self.inside.image.now ≡ c.args.self.now.image = ap (λ s. s.image) seen in
+    let map : c.self.inside.map ≡ c.args.self.now.map = ap (λ s. s.map) seen in
+    let first = rw (image, map) at c.first_at.ensures in (
+      read.0,
+      lefting_empty _ _ _ _ c.loop-depth.invariant.way (omega arith) read.1 c.in_ok-page.was first c.in-Over.is
+          c.if-depth-eq0.false,
+    )
+
+pub loop-depth-preserved : goal.loop-depth-preserved
+loop-depth-preserved c =
+    let read = rw c.loop-depth.invariant.same at c.read_page.ensures in
+    let seen = c.self.view_is ∙ read.0 in
+    let image : c.self.inside.image.now ≡ c.args.self.now.image = ap (λ s. s.image) seen in
+    let map : c.self.inside.map ≡ c.args.self.now.map = ap (λ s. s.map) seen in
+    let first = rw (image, map) at c.first_at.ensures in record {
+      same = read.0;
+      way = elim c.match-first_at.branch [
+        | in-Last w ↦ rw w.q-is
+            (lefting_on _ _ _ _ c.loop-depth.invariant.way (omega arith) read.1 c.in_ok-page.was first w.in-Last.is)
+        | in-Last-2 w ↦ rw w.q-is
+            (lefting_on _ _ _ _ c.loop-depth.invariant.way (omega arith) read.1 c.in_ok-page.was first w.in-Last.is)
+      ];
+    }
+
+pub returns : goal.returns
+returns c = (c.loop-depth.invariant.same, lefting_deep _ _ _ _ c.loop-depth.invariant.way (omega arith))
