@@ -37,7 +37,9 @@ pub struct Entry {
     pub value: Spot,
 }
 
-// The key at `i` against a given one; nothing where it is greater, or no key.
+// The key at `i` against a given one; nothing where it is greater, or no key. In line, as the loops that
+// ask it are, so that each kind has a loop of its own, which does not ask for the kind at each key.
+#[inline(always)]
 pub fn probe_key(s: &[u8], kind: Kind, i: usize, key: &[u8]) -> Option<Probe>
     ensures { result ≡ probe_at s.now kind i (key_of kind key.now) }
 {
@@ -51,8 +53,8 @@ pub fn probe_key(s: &[u8], kind: Kind, i: usize, key: &[u8]) -> Option<Probe>
     }
 }
 
-// How many leading keys, up to the first greater one, are not greater than the key.
-pub fn lead_keys(s: &[u8], kind: Kind, page: Inner, key: &[u8]) -> u32
+#[inline(always)]
+fn lead_each(s: &[u8], kind: Kind, page: Inner, key: &[u8]) -> u32
     ensures { result ≡ lead compare_keys (key_of kind key.now) (keys_in s.now kind page.n page.keys) }
 {
     let mut i = page.keys;
@@ -63,6 +65,16 @@ pub fn lead_keys(s: &[u8], kind: Kind, page: Inner, key: &[u8]) -> u32
         i = probe.next;
     }
     page.n
+}
+
+// How many leading keys, up to the first greater one, are not greater than the key.
+pub fn lead_keys(s: &[u8], kind: Kind, page: Inner, key: &[u8]) -> u32
+    ensures { result ≡ lead compare_keys (key_of kind key.now) (keys_in s.now kind page.n page.keys) }
+{
+    match kind {
+        Kind::Number => lead_each(s, Kind::Number, page, key),
+        Kind::Text => lead_each(s, Kind::Text, page, key),
+    }
 }
 
 // The position of child number `k`, 0 past the last.
@@ -113,8 +125,8 @@ pub fn pick_child(s: &[u8], page: Inner, index: u64) -> Option<Picked>
     None
 }
 
-// The value of the first equal key that comes before any greater one.
-pub fn find_key(s: &[u8], kind: Kind, leaf: Leaf, key: &[u8]) -> Option<Spot>
+#[inline(always)]
+fn find_each(s: &[u8], kind: Kind, leaf: Leaf, key: &[u8]) -> Option<Spot>
     ensures { result ≡ option_map (λ e. e.value) (find_in compare_keys (key_of kind key.now) (entries_in s.now kind leaf.n leaf.keys leaf.values)) }
 {
     let mut i = leaf.keys;
@@ -129,6 +141,16 @@ pub fn find_key(s: &[u8], kind: Kind, leaf: Leaf, key: &[u8]) -> Option<Spot>
         j = value.next;
     }
     None
+}
+
+// The value of the first equal key that comes before any greater one.
+pub fn find_key(s: &[u8], kind: Kind, leaf: Leaf, key: &[u8]) -> Option<Spot>
+    ensures { result ≡ option_map (λ e. e.value) (find_in compare_keys (key_of kind key.now) (entries_in s.now kind leaf.n leaf.keys leaf.values)) }
+{
+    match kind {
+        Kind::Number => find_each(s, Kind::Number, leaf, key),
+        Kind::Text => find_each(s, Kind::Text, leaf, key),
+    }
 }
 
 // Entry number `k` of a leaf, from 0.

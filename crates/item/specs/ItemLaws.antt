@@ -4,7 +4,7 @@
 use Prim.Native.Nat.{ℕ, zero, suc, ◌+◌, ◌*◌, ◌-◌, ◌≤◌, ◌<◌}
 use Rattle.std.specs.Prelude.{◌≡◌, List, Bool, None, Option, Some, slice_get}
 use Rattle.std.proofs.Math.Path.{refl, ap}
-use Rattle.std.proofs.Common.{sym, ◌∙◌, true≢false}
+use Rattle.std.proofs.Common.{sym, ◌∙◌}
 use Rattle.std.proofs.Math.Bool.{true, false}
 use native.Mathlib.Omega.{arith}
 use borrow.Author.Tests.{le-leb, lt-leb, leb-true, leb-false}
@@ -17,7 +17,7 @@ use Rattle.key.specs.SizedLaws.{Lies, sized_lies, key_lies}
 use Rattle.item.specs.declared.Form.{Form}
 use Rattle.item.specs.declared.Form.TheVariants as form
 use Rattle.item.specs.Step.{got, bad, after, up_to}
-use Rattle.item.specs.StepLaws.{on_some, after_more, after_bad, up_to-length, up_to_nth, item_of}
+use Rattle.item.specs.StepLaws.{after_more, after_bad, up_to-length, up_to_nth, item_of}
 use Rattle.item.specs.Item.{item_at, items, value_limit, skipped}
 
 -- ## One step of a form

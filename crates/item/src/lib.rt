@@ -31,6 +31,7 @@ const VALUE_LIMIT: u64 = 65536;
 pub const COUNT_LIMIT: u64 = 281474976710656;
 
 // The item of a form at a place.
+#[inline(always)]
 pub fn item_at(s: &[u8], form: Form, at: usize) -> Option<Sized>
     ensures { result ≡ item_at s.now form at }
 {

@@ -26,6 +26,7 @@ pub enum Kind {
 pub const TEXT_LIMIT: u64 = 1025;
 
 // A number key at `at`: 8 bytes.
+#[inline(always)]
 pub fn number_at(s: &[u8], at: usize) -> Option<Sized>
     ensures { result ≡ key_at Kind.Number s.now at }
 {
@@ -40,6 +41,7 @@ pub fn number_at(s: &[u8], at: usize) -> Option<Sized>
 }
 
 // A text key at `at`: its length, and bytes 32 to 126.
+#[inline(always)]
 fn text_at(s: &[u8], at: usize) -> Option<Sized>
     ensures { result ≡ key_at Kind.Text s.now at }
 {
@@ -51,6 +53,7 @@ fn text_at(s: &[u8], at: usize) -> Option<Sized>
 }
 
 // The key of a kind at `at`: where its own bytes stand, and the place after it.
+#[inline(always)]
 pub fn key_at(s: &[u8], kind: Kind, at: usize) -> Option<Sized>
     ensures { result ≡ key_at kind s.now at }
 {
@@ -71,6 +74,7 @@ pub fn well_formed(kind: Kind, key: &[u8]) -> bool
 }
 
 // Two number keys by their 64 bits, which are those of signed numbers.
+#[inline(always)]
 pub fn compare_numbers(a: u64, b: u64) -> Ordering
     ensures { result ≡ compare_int (to_z w64 a) (to_z w64 b) }
 {
@@ -78,6 +82,7 @@ pub fn compare_numbers(a: u64, b: u64) -> Ordering
 }
 
 // How two keys of a kind, given as their bytes, compare.
+#[inline(always)]
 pub fn compare(kind: Kind, a: &[u8], b: &[u8]) -> Ordering
     ensures { result ≡ compare_keys (key_of kind a.now) (key_of kind b.now) }
 {

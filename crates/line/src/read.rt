@@ -132,6 +132,7 @@ fn read_each(line: &[u8], apart: bool) -> Option<Fields>
 {
     let mut fields = Fields { values: [None; 11] };
     let mut i = 0;
+    // From field to field, which no range counts.
     loop {
         let field = field_at(line, i)?;
         let name = &line[i..field.colon];

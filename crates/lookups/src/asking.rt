@@ -8,6 +8,7 @@ use refusal::Refusal;
 
 // `map HEX`.
 fn map(command: Command<'_>, image: &[u8], store: Store) -> Result<Answer, Refusal> {
+    // On the stack, so that a question fails by a refusal alone and never for want of memory.
     let mut name = [0; 1024];
     let id = store::map_id(image, store, command.bytes(1, &mut name))?;
     Ok(Answer::Id(id))

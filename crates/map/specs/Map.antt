@@ -2,7 +2,7 @@
 -- then the map."
 --
 --   asked_map map kind                                a map by its id and kind, as a caller gives them: "1: kind not 0 or 1; map 0 with kind 0; map id above 2^31-1"
---   asked_key map kind key                            the same with a key: "key badly formed"
+--   keyed key m                                       the same with a key: "key badly formed"
 --   lookup_of, index_of, count_of, copy_of, named_of  the calls
 --   item_of                                           an entry as index gives it; item_at, item_by: by the places of its key and value
 --   area_after image o area                           what the lent area holds after a copy with the outcome o

@@ -1,5 +1,7 @@
 // The public calls of a map, by its id and kind: lookup, index, count and copy; and a map's id by its
 // name. Arguments are judged first, then the image is opened, then the map is asked.
+// The map and its kind stay two numbers, as the C interface hands them on: which are no map or no kind
+// is refused here, with refusal 1.
 #![tactic(auto)]
 
 mod copying;

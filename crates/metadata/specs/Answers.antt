@@ -8,7 +8,7 @@
 --   location_by image edition n f         where chunk n stands by the answer of its lookup, with the questions that the lookup took
 --   located_by, value_by, id_by, root_by  the answers by a chunk's location, or by what a lookup answered
 --   root_said                             a root as its bits
-use Rattle.std.specs.Prelude.{ℕ, cond, List, Err, None, Ok, Option, Some, option_and_then}
+use Rattle.std.specs.Prelude.{ℕ, List, Err, None, Ok, Option, Some, option_and_then}
 use Rattle.refusal.specs.Refusal.{Outcome, bind, not_located, no_such_name, not_a_number}
 use Rattle.text.specs.Text.{bytes_at, within}
 use Rattle.numeral.specs.Hex.{hex_of}

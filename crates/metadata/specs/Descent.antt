@@ -2,7 +2,7 @@
 --
 --   step_of k o          what a page answers a lookup of k: a child's position, a value, Absent or its refusal
 --   advance_of s need l  a descent after one page more: l says where the page's chunk is, s what the page there answers
-use Rattle.std.specs.Prelude.{ℕ, max, Err, None, Ok, Option, Some, option_map}
+use Rattle.std.specs.Prelude.{ℕ, max, Err, Ok, option_map}
 use Rattle.refusal.specs.Refusal.{Outcome, bind}
 use Rattle.position.specs.Position.{of_bits}
 use Rattle.key.specs.Key.{Key, compare_keys}

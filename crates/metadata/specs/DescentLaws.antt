@@ -1,6 +1,5 @@
 -- Laws of one page of a descent, one for each way that the code takes. s is the image up to the page's end.
-use Rattle.std.specs.Prelude.{ℕ, ◌+◌, max, ◌≡◌, List, get_or, take, None, Option, Some, Ok, Err, option_map}
-use Rattle.std.proofs.Common.{sym, ◌∙◌, true≢false}
+use Rattle.std.specs.Prelude.{ℕ, ◌+◌, max, ◌≡◌, List, get_or, take, Option, Ok, Err, option_map}
 use Rattle.refusal.specs.declared.Refusal.{Refusal}
 use Rattle.refusal.specs.Refusal.{Outcome}
 use Rattle.position.specs.declared.Position.{Position}
@@ -17,7 +16,6 @@ use Rattle.page.specs.declared.Leaf.{Leaf}
 use Rattle.page.specs.declared.Inner.{Inner}
 use Rattle.page.specs.Judged.{judged_at}
 use Rattle.text.specs.declared.spot.Spot.{Spot}
-use Rattle.content.specs.declared.Entry.{Entry}
 use Rattle.content.specs.Content.{keys_in, positions_in, counts_in, entries_in, page_of, page_in}
 use Rattle.metadata.specs.declared.Location.{Location}
 use Rattle.metadata.specs.declared.descent.Step.{Step}

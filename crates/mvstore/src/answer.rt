@@ -1,4 +1,5 @@
-// What the exports hand to C: a struct for each answer, and how it is made of the answers in Rattle.
+// What the exports hand to C: a struct for each answer, and how it is made of the answers in Rattle. C
+// has no Option and no Result: a refusal is its number, and `found` and `done` stand beside the values.
 ghost use Rattle.std.specs.Prelude.{◌≡◌};
 ghost use Rattle.mvstore.specs.Exports.{newest_out, value_out, entry_out, count_out, id_out, stop_out, item_out, step_out, report_out};
 

@@ -34,6 +34,7 @@ pub fn are_distinct(line: &[u8]) -> bool
 {
     let mut tree = NameTree::new();
     let mut i = 0;
+    // From one filling of the tree to the next: where it stops, the tree says.
     loop {
         let next = match tree.fill(line, i) {
             Filled::Distinct(distinct) => return distinct,

@@ -145,6 +145,7 @@ impl NameTree {
         self.used = 0;
         self.kids[0] = 0;
         let mut i = from;
+        // From name to name, which no range counts; so is the loop below.
         while self.used < NODES && i - from <= REACH {
             let to = name_end(line, i);
             if to == i {

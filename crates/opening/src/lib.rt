@@ -13,7 +13,8 @@ pub use header::{Copy, header_of};
 use line::Name;
 use refusal::Refusal;
 
-// How an image is opened, as a caller says it: 1 or 2 is an edition, any other number is none.
+// How an image is opened, as a caller says it, by the C interface's number: 1 or 2 is an edition, any
+// other is none.
 #[repr(C)]
 #[derive(Clone, Copy, Debug, PartialEq, Eq)]
 pub struct View {

@@ -11,7 +11,6 @@ use Rattle.position.specs.Position.{type_of}
 use Rattle.key.specs.declared.Kind.{Kind}
 use Rattle.page.specs.declared.Place.{Place}
 use Rattle.item.specs.declared.Form.TheVariants.{Word, Bytes}
-use Rattle.item.specs.declared.Counted.{Counted}
 use Rattle.item.specs.Item.{skipped, counted}
 use Rattle.page.specs.declared.Head.{Head}
 use Rattle.page.specs.declared.Judged.{Judged}

@@ -96,6 +96,7 @@ fn length_fits(code: u32, n: u32, room: usize) -> bool
 }
 
 // How a kind's keys are written.
+#[inline(always)]
 pub fn key_form(kind: Kind) -> Form
     ensures { result ≡ key_form kind }
 {

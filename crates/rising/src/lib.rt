@@ -33,6 +33,7 @@ struct Keys {
 }
 
 // Whether the key at one spot is below the key at another.
+#[inline(always)]
 fn key_below(image: &[u8], kind: Kind, p: Spot, q: Spot) -> bool
     ensures { result ≡ below compare_keys (key_in image.now kind p) (key_in image.now kind q) }
 {
@@ -40,6 +41,7 @@ fn key_below(image: &[u8], kind: Kind, p: Spot, q: Spot) -> bool
 }
 
 // Whether the key at a spot is above the bound.
+#[inline(always)]
 fn above_bound(image: &[u8], kind: Kind, bound: Option<Spot>, p: Spot) -> bool
     ensures { result ≡ above_bound compare_keys (bound_key image.now kind bound) (key_in image.now kind p) }
 {
@@ -69,8 +71,10 @@ fn below_bound(image: &[u8], kind: Kind, bound: Option<Spot>, p: Spot) -> bool
     }
 }
 
-// The last of the keys, where they rise strictly: nothing where they do not, `Some(None)` of no key.
-fn rise(image: &[u8], kind: Kind, keys: Keys) -> Option<Option<Spot>>
+// The last of the keys, where they rise strictly: nothing where they do not, `Some(None)` of no key. In
+// line, so that each kind below has a loop of its own, which does not ask for the kind at each key.
+#[inline(always)]
+fn rise_each(image: &[u8], kind: Kind, keys: Keys) -> Option<Option<Spot>>
     ensures { result ≡ rise_of image.now kind None (up_to (items (take keys.end image.now) (key_form kind)) keys.n keys.at) }
 {
     let s = page::cut(image, keys.end);
@@ -88,6 +92,16 @@ fn rise(image: &[u8], kind: Kind, keys: Keys) -> Option<Option<Spot>>
         i = item.next;
     }
     Some(last)
+}
+
+// The same, by the kind.
+fn rise(image: &[u8], kind: Kind, keys: Keys) -> Option<Option<Spot>>
+    ensures { result ≡ rise_of image.now kind None (up_to (items (take keys.end image.now) (key_form kind)) keys.n keys.at) }
+{
+    match kind {
+        Kind::Number => rise_each(image, Kind::Number, keys),
+        Kind::Text => rise_each(image, Kind::Text, keys),
+    }
 }
 
 // Whether the keys rise strictly and the last of them is below the bound.

@@ -40,13 +40,7 @@ struct Separator {
 }
 
 // A leaf: only the root may be empty.
-fn leaf_of(
-    image: &[u8],
-    kind: Kind,
-    leaf: Leaf,
-    span: Span,
-    top: bool,
-) -> Result<Report, Refusal>
+fn leaf_of(image: &[u8], kind: Kind, leaf: Leaf, span: Span, top: bool) -> Result<Report, Refusal>
     ensures { result ≡ leaf_of image.now kind leaf span top }
 {
     if leaf.n == 0 && !top {

@@ -14,10 +14,13 @@ pub empty_right : (image : List ℕ) (store : Store) (n : ℕ) → RightWords im
 empty_right image store n = record { known = empty_holds (Known (metadata image store)) n }
 
 module _ (image : List ℕ) (store : Store) {ws : List ℕ} (right : RightWords image store ws) (c : ℕ) where
-  pub recalled_known : (r : Recalled) → recalled_in ws c ≡ r → IsRecalled image store c r
-  recalled_known (recalled.At l need) e = recalled_holds (Known (metadata image store)) ws right.known c e
-  recalled_known (recalled.Free i) e = tt
-  recalled_known recalled.Full e = tt
+  pub recalled_known : {l : Place} {need : ℕ} → recalled_in ws c ≡ recalled.At l need → Known (metadata image store) c l need
+  recalled_known e = recalled_holds (Known (metadata image store)) ws right.known c e
+
+  pub recalled_right : (r : Recalled) → recalled_in ws c ≡ r → IsRecalled image store c r
+  recalled_right (recalled.At l need) e = recalled_known e
+  recalled_right (recalled.Free i) e = tt
+  recalled_right recalled.Full e = tt
 
   pub remembered_right : (l : Place) (need : ℕ) → l.block < 2 ^ 28 → l.first < 2 ^ 32 → need < 16 →
       Known (metadata image store) c l need → RightWords image store (remembered_in ws c l need)

@@ -80,6 +80,7 @@ impl<'a> Asked<'a> {
         let mut counts = page.counts;
         let mut keys = page.keys;
         let mut j: u32 = 0;
+        // The last child ends the loop inside: a `for` would go to a child after it for its end.
         loop {
             let c = child_at(self.image, self.map.kind, page, j, counts, keys, span.hi);
             let under = Span { lo, hi: c.hi };

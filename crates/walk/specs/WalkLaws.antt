@@ -1,6 +1,7 @@
 -- Laws of one step, one for each way that the code takes.
-use Rattle.std.specs.Prelude.{ℕ, ◌≡◌, refl, List, Err, None, Ok, Option, Some}
-use Rattle.std.proofs.Common.{eq-eqb, ne_eqb}
+use Rattle.std.specs.Prelude.{ℕ, ◌≤◌, ◌≡◌, true, leb, refl, List, Err, None, Ok, Option, Some}
+use Rattle.std.proofs.Common.{eq-eqb, ne_eqb, leb-true}
+use Rattle.std.proofs.Math.Bool.{and-eq-true_iff}
 use Rattle.text.specs.Text.{within}
 use Rattle.refusal.specs.declared.Refusal.{Refusal}
 use Rattle.refusal.specs.Refusal.{Outcome, number_of, refusal_of}

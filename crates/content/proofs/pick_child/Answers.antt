@@ -3,7 +3,6 @@ use native.Mathlib.Omega.{arith}
 use mathlib.Core.Path.{◌≡◌, sym, ◌∙◌, ap}
 use Rattle.content.specs.Content.{picked_of}
 use Rattle.content.specs.PickLaws.{pick_from_lem, pick_none, pick_bad, pick_over, pick_here, pick_on}
-use Rattle.refusal.proofs.Passing.{handed_up}
 use Rattle.content.proofs.pick_child.Goals as goal
 
 pub loop-number-init : goal.loop-number-init

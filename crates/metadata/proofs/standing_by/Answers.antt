@@ -1,5 +1,3 @@
-use Rattle.text.specs.Text.{same}
-use Rattle.line.specs.Reading.{number_of, slot_of}
 use Rattle.metadata.specs.Answers.{standing_by}
 use Rattle.metadata.proofs.standing_by.Goals as goal
 

@@ -17,7 +17,7 @@ returns c =
     let a = c.args in
     leaf_passed a.image.now a.kind a.leaf a.span a.top c.keys_lie.ensures
     (elim c.else-leaf-eq0.branch [
-      else-leaf-eq0-via-then-leaf-eq0+else-not-top w ↦ full_top a.leaf.n w.if-not-top.false
-    | else-leaf-eq0-via-else-leaf-eq0 w ↦ full_some a.leaf.n a.top w.if-leaf-eq0.false
+      | else-leaf-eq0-via-then-leaf-eq0+else-not-top w ↦ full_top a.leaf.n w.if-not-top.false
+      | else-leaf-eq0-via-else-leaf-eq0 w ↦ full_some a.leaf.n a.top w.if-leaf-eq0.false
     ])
     c.if-not-keys_lie.false

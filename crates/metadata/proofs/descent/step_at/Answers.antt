@@ -1,4 +1,4 @@
-use Rattle.std.proofs.Common.{sym, ◌∙◌, ap, Ok}
+use Rattle.std.proofs.Common.{◌∙◌, ap, Ok}
 use Rattle.refusal.proofs.Passing.{handed_up}
 use Rattle.metadata.specs.DescentLaws.{page_refuses, leaf_answers, inner_leads}
 use Rattle.metadata.proofs.descent.step_at.Goals as goal

@@ -3,7 +3,7 @@ use Rattle.key.specs.Key.{key_of, compare_keys}
 use Rattle.tree.specs.InnerPage.{lead}
 use Rattle.content.specs.Content.{keys_in}
 use Rattle.content.specs.KeyLaws.{Leading}
-use Rattle.content.proofs.lead_keys.Given as goal
+use Rattle.content.proofs.lead_each.Given as goal
 
 abbrev pub invariant-loop-passed : goal.invariant-loop-passed
 invariant-loop-passed l =

@@ -4,7 +4,7 @@ use Rattle.key.specs.Key.{key_of, compare_keys}
 use Rattle.tree.specs.Asking.{find_in}
 use Rattle.content.specs.Content.{entries_in}
 use Rattle.content.specs.KeyLaws.{Finding}
-use Rattle.content.proofs.find_key.Given as goal
+use Rattle.content.proofs.find_each.Given as goal
 
 abbrev pub invariant-loop : goal.invariant-loop
 invariant-loop l =

@@ -1,7 +1,7 @@
 use Prim.Native.Nat.{◌-◌, ◌+◌}
 use Rattle.std.proofs.Common.{◌≡◌, arith, sym, ◌∙◌}
 use Rattle.content.specs.KeyLaws.{lead_none, lead_seen, lead_stopped}
-use Rattle.content.proofs.lead_keys.Goals as goal
+use Rattle.content.proofs.lead_each.Goals as goal
 
 pub loop-passed-init : goal.loop-passed-init
 loop-passed-init c =

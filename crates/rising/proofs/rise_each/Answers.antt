@@ -1,7 +1,7 @@
 use Prim.Native.Nat.{◌-◌, ◌+◌}
 use Rattle.std.proofs.Common.{◌≡◌, arith}
 use Rattle.rising.specs.RisingLaws.{rise_none, rise_bad, rise_more, rise_falls}
-use Rattle.rising.proofs.rise.Goals as goal
+use Rattle.rising.proofs.rise_each.Goals as goal
 
 pub loop-init : goal.loop-init
 loop-init c =

@@ -5,7 +5,7 @@ use Rattle.item.specs.Item.{items}
 use Rattle.page.specs.Judged.{key_form}
 use Rattle.rising.specs.Rising.{rise_of}
 use Rattle.rising.specs.RisingLaws.{Climbing}
-use Rattle.rising.proofs.rise.Given as goal
+use Rattle.rising.proofs.rise_each.Given as goal
 
 abbrev pub invariant-loop : goal.invariant-loop
 invariant-loop l =

@@ -1,7 +1,7 @@
 use Prim.Native.Nat.{◌-◌, ◌+◌}
 use Rattle.std.proofs.Common.{◌≡◌, arith, refl, ◌∙◌}
 use Rattle.content.specs.KeyLaws.{find_none, find_bad, find_same, find_less, find_stopped}
-use Rattle.content.proofs.find_key.Goals as goal
+use Rattle.content.proofs.find_each.Goals as goal
 
 pub loop-init : goal.loop-init
 loop-init c =
