@@ -1,5 +1,6 @@
 -- Laws of the memory: what is right of an empty one, of what is recalled, and of the words with a chunk more.
 use Rattle.std.specs.Prelude.{ℕ, ◌^◌, ◌<◌, ◌≡◌, List, replicate}
+use Rattle.std.proofs.Common.{ap}
 use Rattle.locating.specs.Known.{Known}
 use Rattle.opening.specs.declared.Store.{Store}
 use Rattle.page.specs.declared.Place.{Place}
@@ -8,7 +9,8 @@ use Rattle.memory.specs.declared.Recalled.TheVariants as recalled
 use Rattle.memory.specs.Words.{recalled_in, remembered_in}
 use Rattle.memory.specs.WordsLaws.{empty_holds, recalled_holds, remembered_holds}
 use Rattle.store.specs.Store.{metadata}
-use Rattle.store.specs.Memory.{RightWords, IsRecalled}
+use Rattle.store.specs.declared.asked.Asked.TheInside.{Inside}
+use Rattle.store.specs.Memory.{Question, RightWords, IsRecalled}
 
 pub empty_right : (image : List ℕ) (store : Store) (n : ℕ) → RightWords image store (replicate n 0)
 empty_right image store n = record { known = empty_holds (Known (metadata image store)) n }
@@ -26,3 +28,7 @@ module _ (image : List ℕ) (store : Store) {ws : List ℕ} (right : RightWords 
       Known (metadata image store) c l need → RightWords image store (remembered_in ws c l need)
   remembered_right l need b f few known =
       record { known = remembered_holds (Known (metadata image store)) c l need b f few ws right.known known }
+
+-- what is read of a struct whose view is known
+pub seen : (a : Inside) {q : Question} → record { image = a.image.now; map = a.map } ≡ q → (a.image.now ≡ q.image) × (a.map ≡ q.map)
+seen a e = (ap (λ s. s.image) e, ap (λ s. s.map) e)

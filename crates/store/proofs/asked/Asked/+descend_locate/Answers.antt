@@ -7,6 +7,7 @@ use Rattle.store.specs.Memory.{RightWords, IsLocation}
 use Rattle.store.specs.SettleLaws.{sought_few}
 use Rattle.store.specs.CycleLaws.{came_root, came_on, sought_empty, sought_zero, sought_deep, sought_done, sought_refused}
 use Rattle.store.specs.CycleLaws.{tells_newest, tells_few, tells_recalled, tells_ninth, tells_settled}
+use Rattle.store.specs.MemoryLaws.{seen}
 use Rattle.store.proofs.asked.Asked.+descend_locate.Goals as goal
 
 pub descend-returns-then-is_empty : goal.descend-returns-then-is_empty
@@ -29,26 +30,26 @@ pub descend-returns-in_err-position : goal.descend-returns-in_err-position
 descend-returns-in_err-position t c =
     let same = c.loop.invariant.same in
     let now = c.locate-l.ensures.0 ∙ same in
-    let image : c.self.inside.image.now ≡ c.args.self.now.image = ap (λ s. s.image) (c.self.view_is ∙ now) in
-    let on = sought_refused _ _ _ _ _ _ _ _ _ _ _ _ _ (omega arith) (full_other c.is_empty-in-loop.ensures c.if-is_empty-2.false) c.loop.invariant.came c.chunk.ensures (rw same at c.locate-l.ensures.1) (rw image at c.advance_at.ensures) in
+    let read_in = seen c.self.inside (c.self.view_is ∙ now) in
+    let on = sought_refused _ _ _ _ _ _ _ _ _ _ _ _ _ (omega arith) (full_other c.is_empty-in-loop.ensures c.if-is_empty-2.false) c.loop.invariant.came c.chunk.ensures (rw same at c.locate-l.ensures.1) (rw read_in.0 at c.advance_at.ensures) in
     (now, rw (handed_up c.from_residual.ensures) (on c.in_err-position.was))
 
 pub descend-returns-in-Done : goal.descend-returns-in-Done
 descend-returns-in-Done t c =
     let same = c.loop.invariant.same in
     let now = c.locate-l.ensures.0 ∙ same in
-    let image : c.self.inside.image.now ≡ c.args.self.now.image = ap (λ s. s.image) (c.self.view_is ∙ now) in
-    (now, sought_done _ _ _ _ _ _ _ _ _ _ _ _ _ (omega arith) (full_other c.is_empty-in-loop.ensures c.if-is_empty-2.false) c.loop.invariant.came c.chunk.ensures (rw same at c.locate-l.ensures.1) (rw image at c.advance_at.ensures) (c.in_ok-position.was ∙ ap Ok c.in-Done.is))
+    let read_in = seen c.self.inside (c.self.view_is ∙ now) in
+    (now, sought_done _ _ _ _ _ _ _ _ _ _ _ _ _ (omega arith) (full_other c.is_empty-in-loop.ensures c.if-is_empty-2.false) c.loop.invariant.came c.chunk.ensures (rw same at c.locate-l.ensures.1) (rw read_in.0 at c.advance_at.ensures) (c.in_ok-position.was ∙ ap Ok c.in-Done.is))
 
 pub descend-loop-preserved : goal.descend-loop-preserved
 descend-loop-preserved t c =
     let same = c.loop.invariant.same in
     let now = c.locate-l.ensures.0 ∙ same in
-    let image : c.self.inside.image.now ≡ c.args.self.now.image = ap (λ s. s.image) (c.self.view_is ∙ now) in
+    let read_in = seen c.self.inside (c.self.view_is ∙ now) in
     let fewer : 16 - (c.loop.counter + 1) ≡ 16 - c.loop.counter - 1 = omega arith in
     record {
       same = now;
-      came = rw fewer (came_on _ _ _ _ _ _ _ _ _ _ _ _ _ (omega arith) (full_other c.is_empty-in-loop.ensures c.if-is_empty-2.false) c.loop.invariant.came c.chunk.ensures (rw same at c.locate-l.ensures.1) (rw image at c.advance_at.ensures) (c.in_ok-position.was ∙ ap Ok c.in-To.is));
+      came = rw fewer (came_on _ _ _ _ _ _ _ _ _ _ _ _ _ (omega arith) (full_other c.is_empty-in-loop.ensures c.if-is_empty-2.false) c.loop.invariant.came c.chunk.ensures (rw same at c.locate-l.ensures.1) (rw read_in.0 at c.advance_at.ensures) (c.in_ok-position.was ∙ ap Ok c.in-To.is));
     }
 
 pub descend-returns : goal.descend-returns
@@ -77,20 +78,16 @@ settled : (t : ℕ) (c : goal.locate-After-settle t) →
     RightWords c.args.self.now.image c.args.self.now.map.store c.settle.new.words
     × IsLocation c.args.self.now.image c.args.self.now.map.store c.args.q c.args.c c.settle.result
 settled t c =
-    let map : c.self.inside.map ≡ c.args.self.now.map = ap (λ s. s.map) c.self.view_is in
-    let seen = c.self-2.view_is ∙ c.descend-f.ensures.0 in
-    let image-2 : c.self-2.inside.image.now ≡ c.args.self.now.image = ap (λ s. s.image) seen in
-    let map-2 : c.self-2.inside.map ≡ c.args.self.now.map = ap (λ s. s.map) seen in
-    tells_settled _ _ _ _ _ _ (rw map at c.if-c-newest.false) c.if-q-eq0.false c.requires (rw (image-2, map-2) at c.self-2.invariant) _
-    (rw c.chunk_key-key.ensures (padded_text 22 (chunk_key c.args.c))) (rw (c.metadata-m.ensures, map) at c.descend-f.ensures.1) _ _
-    (rw (image-2, map) at c.settle.ensures.0) c.settle.ensures.1
+    let asked = seen c.self.inside c.self.view_is in
+    let after = seen c.self-2.inside (c.self-2.view_is ∙ c.descend-f.ensures.0) in
+    tells_settled _ _ _ _ _ _ (rw asked.1 at c.if-c-newest.false) c.if-q-eq0.false c.requires (rw (after.0, after.1) at c.self-2.invariant) _
+    (rw c.chunk_key-key.ensures (padded_text 22 (chunk_key c.args.c))) (rw (c.metadata-m.ensures, asked.1) at c.descend-f.ensures.1) _ _
+    (rw (after.0, asked.1) at c.settle.ensures.0) c.settle.ensures.1
 
 pub locate-invariant_of-self : goal.locate-invariant_of-self
 locate-invariant_of-self t c =
-    let seen = c.self-2.view_is ∙ c.descend-f.ensures.0 in
-    let image-2 : c.self-2.inside.image.now ≡ c.args.self.now.image = ap (λ s. s.image) seen in
-    let map-2 : c.self-2.inside.map ≡ c.args.self.now.map = ap (λ s. s.map) seen in
-    rw (image-2, map-2) (settled t c).0
+    let after = seen c.self-2.inside (c.self-2.view_is ∙ c.descend-f.ensures.0) in
+    rw (after.0, after.1) (settled t c).0
 
 pub locate-returns : goal.locate-returns
 locate-returns t c = (c.self-2.view_is ∙ c.descend-f.ensures.0, (settled t c).1)

@@ -3,6 +3,7 @@ use Rattle.store.specs.Asking.{turn_of}
 use Rattle.refusal.proofs.Passing.{handed_up}
 use Rattle.store.specs.AskLaws.{index_empty, index_root, index_deep, index_child, index_done, index_refused, turn_refused}
 use Rattle.position.specs.Laws.{empty_zero, full_other}
+use Rattle.store.specs.MemoryLaws.{seen}
 use Rattle.store.proofs.asked.Asked.fetch_from.Goals as goal
 
 pub returns-then-is_empty : goal.returns-then-is_empty
@@ -26,10 +27,8 @@ pub returns-in_err-position : goal.returns-in_err-position
 returns-in_err-position c =
     let l = c.loop in
     let read = rw l.invariant.same at c.read_page.ensures in
-    let seen = c.self.view_is ∙ read.0 in
-    let image : c.self.inside.image.now ≡ c.args.self.now.image = ap (λ s. s.image) seen in
-    let map : c.self.inside.map ≡ c.args.self.now.map = ap (λ s. s.map) seen in
-    let turn = rw (image, map) at c.turn_at.ensures ∙ ap (turn_of c.args.self.now.image c.args.self.now.map.kind l.left) (sym c.in_ok-page.was) in
+    let read_in = seen c.self.inside (c.self.view_is ∙ read.0) in
+    let turn = rw (read_in.0, read_in.1) at c.turn_at.ensures ∙ ap (turn_of c.args.self.now.image c.args.self.now.map.kind l.left) (sym c.in_ok-page.was) in
     handed_up c.from_residual-in_err-position.ensures
     ∙ sym (index_refused _ _ _ _ l.left l.p.bits (16 - l.counter) (omega arith) _ read.1 _ turn c.in_err-position.was)
     ∙ l.invariant.found
@@ -38,10 +37,8 @@ pub returns-in-Done : goal.returns-in-Done
 returns-in-Done c =
     let l = c.loop in
     let read = rw l.invariant.same at c.read_page.ensures in
-    let seen = c.self.view_is ∙ read.0 in
-    let image : c.self.inside.image.now ≡ c.args.self.now.image = ap (λ s. s.image) seen in
-    let map : c.self.inside.map ≡ c.args.self.now.map = ap (λ s. s.map) seen in
-    let turn = rw (image, map) at c.turn_at.ensures ∙ ap (turn_of c.args.self.now.image c.args.self.now.map.kind l.left) (sym c.in_ok-page.was) in
+    let read_in = seen c.self.inside (c.self.view_is ∙ read.0) in
+    let turn = rw (read_in.0, read_in.1) at c.turn_at.ensures ∙ ap (turn_of c.args.self.now.image c.args.self.now.map.kind l.left) (sym c.in_ok-page.was) in
     sym (index_done _ _ _ _ l.left l.p.bits (16 - l.counter) (omega arith) _ read.1 _ turn (c.in_ok-position.was ∙ ap Ok c.in-Done.is))
     ∙ l.invariant.found
 
@@ -49,10 +46,8 @@ pub loop-preserved : goal.loop-preserved
 loop-preserved c =
     let l = c.loop in
     let read = rw l.invariant.same at c.read_page.ensures in
-    let seen = c.self.view_is ∙ read.0 in
-    let image : c.self.inside.image.now ≡ c.args.self.now.image = ap (λ s. s.image) seen in
-    let map : c.self.inside.map ≡ c.args.self.now.map = ap (λ s. s.map) seen in
-    let turn = rw (image, map) at c.turn_at.ensures ∙ ap (turn_of c.args.self.now.image c.args.self.now.map.kind l.left) (sym c.in_ok-page.was) in
+    let read_in = seen c.self.inside (c.self.view_is ∙ read.0) in
+    let turn = rw (read_in.0, read_in.1) at c.turn_at.ensures ∙ ap (turn_of c.args.self.now.image c.args.self.now.map.kind l.left) (sym c.in_ok-page.was) in
     let fewer : 16 - (l.counter + 1) ≡ 16 - l.counter - 1 = omega arith in
     record {
       same = read.0;

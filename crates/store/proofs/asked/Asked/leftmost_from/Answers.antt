@@ -1,7 +1,8 @@
-use Rattle.std.proofs.Common.{◌≡◌, refl, ap, ◌∙◌, arith}
+use Rattle.std.proofs.Common.{refl, ◌∙◌, arith}
 use Rattle.refusal.proofs.Passing.{handed_up}
 use Rattle.store.specs.WayLaws.{lefting_start, lefting_deep, lefting_refused, lefting_entry, lefting_over}
 use Rattle.store.specs.WayLaws.{lefting_empty, lefting_on}
+use Rattle.store.specs.MemoryLaws.{seen}
 use Rattle.store.proofs.asked.Asked.leftmost_from.Goals as goal
 use Rattle.store.proofs.asked.Asked.leftmost_from.Goals.{in-Last, in-Last-2}
 
@@ -21,10 +22,8 @@ returns-in_err-page c =
 pub returns-in-Entry : goal.returns-in-Entry
 returns-in-Entry c =
     let read = rw c.loop-depth.invariant.same at c.read_page.ensures in
-    let seen = c.self.view_is ∙ read.0 in
-    let image : c.self.inside.image.now ≡ c.args.self.now.image = ap (λ s. s.image) seen in
-    let map : c.self.inside.map ≡ c.args.self.now.map = ap (λ s. s.map) seen in
-    let first = rw (image, map) at c.first_at.ensures in (
+    let read_in = seen c.self.inside (c.self.view_is ∙ read.0) in
+    let first = rw (read_in.0, read_in.1) at c.first_at.ensures in (
       read.0,
       lefting_entry _ _ _ _ c.loop-depth.invariant.way (omega arith) read.1 c.in_ok-page.was first c.in-Entry.is,
     )
@@ -32,10 +31,8 @@ returns-in-Entry c =
 pub returns-in-Over : goal.returns-in-Over
 returns-in-Over c =
     let read = rw c.loop-depth.invariant.same at c.read_page.ensures in
-    let seen = c.self.view_is ∙ read.0 in
-    let image : c.self.inside.image.now ≡ c.args.self.now.image = ap (λ s. s.image) seen in
-    let map : c.self.inside.map ≡ c.args.self.now.map = ap (λ s. s.map) seen in
-    let first = rw (image, map) at c.first_at.ensures in (
+    let read_in = seen c.self.inside (c.self.view_is ∙ read.0) in
+    let first = rw (read_in.0, read_in.1) at c.first_at.ensures in (
       read.0,
       lefting_over _ _ _ _ c.loop-depth.invariant.way (omega arith) read.1 c.in_ok-page.was first c.in-Over.is
           c.if-depth-eq0.true,
@@ -44,10 +41,8 @@ returns-in-Over c =
 pub returns-in-Over-2 : goal.returns-in-Over-2
 returns-in-Over-2 c =
     let read = rw c.loop-depth.invariant.same at c.read_page.ensures in
-    let seen = c.self.view_is ∙ read.0 in
-    let image : c.self.inside.image.now ≡ c.args.self.now.image = ap (λ s. s.image) seen in
-    let map : c.self.inside.map ≡ c.args.self.now.map = ap (λ s. s.map) seen in
-    let first = rw (image, map) at c.first_at.ensures in (
+    let read_in = seen c.self.inside (c.self.view_is ∙ read.0) in
+    let first = rw (read_in.0, read_in.1) at c.first_at.ensures in (
       read.0,
       lefting_empty _ _ _ _ c.loop-depth.invariant.way (omega arith) read.1 c.in_ok-page.was first c.in-Over.is
           c.if-depth-eq0.false,
@@ -56,10 +51,8 @@ returns-in-Over-2 c =
 pub loop-depth-preserved : goal.loop-depth-preserved
 loop-depth-preserved c =
     let read = rw c.loop-depth.invariant.same at c.read_page.ensures in
-    let seen = c.self.view_is ∙ read.0 in
-    let image : c.self.inside.image.now ≡ c.args.self.now.image = ap (λ s. s.image) seen in
-    let map : c.self.inside.map ≡ c.args.self.now.map = ap (λ s. s.map) seen in
-    let first = rw (image, map) at c.first_at.ensures in record {
+    let read_in = seen c.self.inside (c.self.view_is ∙ read.0) in
+    let first = rw (read_in.0, read_in.1) at c.first_at.ensures in record {
       same = read.0;
       way = elim c.match-first_at.branch [
         | in-Last w ↦ rw w.q-is

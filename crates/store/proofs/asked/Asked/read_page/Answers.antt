@@ -1,7 +1,8 @@
-use Rattle.std.proofs.Common.{◌≡◌, refl, ap, ◌∙◌}
+use Rattle.std.proofs.Common.{refl, ◌∙◌}
 use Rattle.refusal.proofs.Passing.{handed_up}
 use Rattle.store.specs.ReadLaws.{judged_zero, judged_there, judged_nowhere}
 use Rattle.position.specs.Laws.{empty_zero, full_other}
+use Rattle.store.specs.MemoryLaws.{seen}
 use Rattle.store.proofs.asked.Asked.read_page.Goals as goal
 
 pub returns-then-is_empty : goal.returns-then-is_empty
@@ -18,10 +19,8 @@ returns-in_err-l c =
 pub returns : goal.returns
 returns c =
     let l = c.locate in
-    let seen = c.self.view_is ∙ l.ensures.0 in
-    let image : c.self.inside.image.now ≡ c.args.self.now.image = ap (λ s. s.image) seen in
-    let map : c.self.inside.map ≡ c.args.self.now.map = ap (λ s. s.map) seen in (
+    let read_in = seen c.self.inside (c.self.view_is ∙ l.ensures.0) in (
       l.ensures.0,
-      rw (image, map) at c.judge.ensures
+      rw (read_in.0, read_in.1) at c.judge.ensures
           ∙ judged_there _ _ _ _ _ (full_other c.is_empty.ensures c.if-is_empty.false) _ c.chunk.ensures l.ensures.1 c.in_ok-l.was,
     )
