@@ -1,8 +1,8 @@
 // The image, its blocks, and the three kinds of line that opening reads of it.
-ghost use Rattle.std.specs.Prelude.{◌*◌, ◌≤◌, ◌≡◌, length, Some};
+ghost use Rattle.std.specs.Prelude.{◌*◌, ◌≤◌, ◌≡◌, length, option_copied, Some};
 ghost use Rattle.line.specs.Fields.{text_of};
 ghost use Rattle.line.specs.Reading.{value_of};
-ghost use Rattle.chunk.specs.Image.{block_bytes, right_blocks, is_value, plain, plain_line, summed_line, header_line, chunk_line, footer_line};
+ghost use Rattle.chunk.specs.Image.{block_bytes, blocks_in, right_blocks, is_value, says, plain, plain_line, summed_line, header_line, chunk_line, footer_line};
 
 use fletcher::Edition;
 use line::{Fields, Line, Name};
@@ -30,8 +30,15 @@ impl Reading {
     }
 }
 
+// The same of a reading that may be none, which gives no name.
+pub fn says(r: Option<&Reading>, name: Name, v: u64) -> bool
+    ensures { result ≡ says (option_copied r.entry) (text_of name) v }
+{
+    r.is_some_and(|r| r.says(name, v))
+}
+
 // The number of blocks of the image, if its size is right.
-pub fn blocks_in(image: &[u8]) -> Option<u32>
+pub fn right_blocks(image: &[u8]) -> Option<u32>
     ensures { result ≡ right_blocks image.now }
 {
     let blocks = image.len() / 4096;
@@ -39,6 +46,13 @@ pub fn blocks_in(image: &[u8]) -> Option<u32>
         return None;
     }
     Some(blocks as u32)
+}
+
+// The number of blocks of the image; 0 where its size is not right.
+pub fn blocks_in(image: &[u8]) -> u32
+    ensures { result ≡ blocks_in image.now }
+{
+    right_blocks(image).unwrap_or(0)
 }
 
 // Where block `b` starts. Blocks past 524287 start past 2^31 - 1.

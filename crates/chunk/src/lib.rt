@@ -3,11 +3,11 @@
 
 mod image;
 
-ghost use Rattle.std.specs.Prelude.{◌+◌, ◌^◌, ◌<◌, ◌≤◌, ◌≡◌, Some};
+ghost use Rattle.std.specs.Prelude.{◌+◌, ◌^◌, ◌<◌, ◌≤◌, ◌≡◌, option_copied, Some};
 ghost use Rattle.chunk.specs.Chunk.{told, footer_of, footed, stands_at, said_at, kept, has_id};
 
 use fletcher::Edition;
-pub use image::{Reading, blocks_in, chunk_line, footer_line, header_line};
+pub use image::{Reading, blocks_in, chunk_line, footer_line, header_line, right_blocks, says};
 use line::Name;
 use position::Position;
 
@@ -26,6 +26,7 @@ pub struct Chunk {
 
 // The chunk that a header in block `b` says, if it has all the fields that are needed and fits the block
 // of an image of so many blocks. Its pages begin after the header's newline.
+#[tactic(auto, unfolding(crate::specs::Chunk::needed, crate::specs::Chunk::fitting))]
 fn chunk_of(blocks: u32, b: u32, r: &Reading) -> Option<Chunk>
     requires inside { b ≤ blocks }
     requires small { r.now.newline < 1024 }
@@ -57,13 +58,13 @@ fn chunk_of(blocks: u32, b: u32, r: &Reading) -> Option<Chunk>
     })
 }
 
-// Whether a footer's reading is the footer of the chunk.
-pub fn is_footer(c: Chunk, r: &Reading) -> bool
-    ensures { result ≡ footer_of c (Some r.now) }
+// Whether a footer's reading, which may be none, is the footer of the chunk.
+pub fn is_footer(c: Chunk, r: Option<&Reading>) -> bool
+    ensures { result ≡ footer_of c (option_copied r.entry) }
 {
     let id = c.id as u64;
     let block = c.block as u64;
-    r.says(Name::Chunk, id) && r.says(Name::Block, block) && r.says(Name::Version, c.version)
+    says(r, Name::Chunk, id) && says(r, Name::Block, block) && says(r, Name::Version, c.version)
 }
 
 // The chunk, if its footer stands where it ends.
@@ -71,15 +72,16 @@ fn with_footer(image: &[u8], edition: Edition, c: Chunk) -> Option<Chunk>
     requires { c.block + c.len < 2 ^ 32 }
     ensures { result ≡ footed image.now edition c }
 {
-    let r = footer_line(image, edition, c.block + c.len)?;
-    is_footer(c, &r).then_some(c)
+    let r = footer_line(image, edition, c.block + c.len);
+    is_footer(c, r.as_ref()).then_some(c)
 }
 
 // The chunk that the header in block `b` says, whatever its footer is.
+#[tactic(auto, using(crate::specs::ChunkLaws::said_unread))]
 pub fn said_at(image: &[u8], b: u64) -> Option<Chunk>
     ensures { result ≡ said_at image.now b }
 {
-    let blocks = blocks_in(image)?;
+    let blocks = right_blocks(image)?;
     if b < 2 || blocks as u64 <= b {
         return None;
     }
@@ -89,6 +91,7 @@ pub fn said_at(image: &[u8], b: u64) -> Option<Chunk>
 }
 
 // The chunk that stands at block `b`.
+#[tactic(auto, unfolding(crate::specs::Chunk::stands_at))]
 pub fn stands_at(image: &[u8], edition: Edition, b: u64) -> Option<Chunk>
     ensures { result ≡ stands_at image.now edition b }
 {

@@ -51,6 +51,12 @@ module _ (s : List ℕ) (kind : Kind) (k : Key) where
       let n : j.next - j.spot.at ≡ j.spot.len = omega (arith, (item_lies s (key_form kind) i e).ends) in
       rw (e, n)
 
+  -- the same, with how the two keys compare
+  pub probe_ordered : (i : ℕ) {j : Sized} {o : Ordering} → item_at s (key_form kind) i ≡ Some j
+      → compare_keys (key_of kind (take (j.next - j.spot.at) (drop j.spot.at s))) k ≡ o
+      → probe_at s kind i k ≡ three o (upto j.next false) (upto j.next true) None
+  probe_ordered i e q = rw (probe_at_lem i e, q)
+
   pub probe_bad : (i : ℕ) → item_at s (key_form kind) i ≡ None → probe_at s kind i k ≡ None
   unfolding probe_at
   probe_bad i e = rw e

@@ -40,6 +40,7 @@ pub struct Entry {
 // The key at `i` against a given one; nothing where it is greater, or no key. In line, as the loops that
 // ask it are, so that each kind has a loop of its own, which does not ask for the kind at each key.
 #[inline(always)]
+#[tactic(auto, using(crate::specs::KeyLaws::probe_bad))]
 pub fn probe_key(s: &[u8], kind: Kind, i: usize, key: &[u8]) -> Option<Probe>
     ensures { result ≡ probe_at s.now kind i (key_of kind key.now) }
 {
@@ -96,6 +97,7 @@ pub fn child(s: &[u8], page: Inner, k: u32) -> Position
 }
 
 // The recorded count of child number `k`, 0 past the last.
+#[tactic(auto, unfolding(crate::specs::Content::counts_in))]
 pub fn recorded(s: &[u8], page: Inner, k: u32) -> u64
     ensures { result ≡ get_or (counts_in s.now (page.n + 1) page.counts) k 0 }
 {
@@ -154,6 +156,7 @@ pub fn find_key(s: &[u8], kind: Kind, leaf: Leaf, key: &[u8]) -> Option<Spot>
 }
 
 // Entry number `k` of a leaf, from 0.
+#[tactic(auto, using(crate::specs::NumberLaws::paired_nth), unfolding(crate::specs::Content::entries_in))]
 pub fn nth_entry(s: &[u8], kind: Kind, leaf: Leaf, k: u64) -> Option<Entry>
     ensures { result ≡ option_map (λ e. e.1) (slice_get (entries_in s.now kind leaf.n leaf.keys leaf.values) k) }
 {

@@ -76,17 +76,18 @@ fn after_child(image: &[u8], page: Inner, i: u32, last: bool) -> Result<After, R
     })
 }
 
-// What follows number `i` at a page; `last` says whether it is the last number.
+// What follows number `i` at a page; `last` says whether it is the last number. A page that was refused
+// may be given too: its refusal is handed up.
 pub fn after_at(
     image: &[u8],
     kind: Kind,
-    page: Judged,
+    page: Result<Judged, Refusal>,
     i: u32,
     last: bool,
 ) -> Result<After, Refusal>
-    ensures { result ≡ after_of image.now kind i last (Ok page) }
+    ensures { result ≡ after_of image.now kind i last page }
 {
-    match page {
+    match page? {
         Judged::Leaf(leaf) => after_entry(image, kind, leaf, i, last),
         Judged::Inner(inner) => after_child(image, inner, i, last),
     }
@@ -102,18 +103,20 @@ pub fn over_at(left: Option<Left>) -> Down
     }
 }
 
-// One page on the way down to the left: its first child, its first entry, or neither.
-pub fn first_at(image: &[u8], kind: Kind, page: Judged) -> After
-    ensures { Ok result ≡ first_of image.now kind (Ok page) }
+// One page on the way down to the left: its first child, its first entry, or neither. A refusal given
+// for it is handed up.
+pub fn first_at(image: &[u8], kind: Kind, page: Result<Judged, Refusal>) -> Result<After, Refusal>
+    ensures { result ≡ first_of image.now kind page }
 {
-    match page {
+    match page? {
         Judged::Leaf(leaf) => {
             let s = page::cut(image, leaf.end);
-            content::nth_entry(s, kind, leaf, 0).map_or(After::Over, After::Entry)
+            let first = content::nth_entry(s, kind, leaf, 0);
+            Ok(first.map_or(After::Over, After::Entry))
         }
         Judged::Inner(inner) => {
             let s = page::cut(image, inner.end);
-            After::Last(content::child(s, inner, 0))
+            Ok(After::Last(content::child(s, inner, 0)))
         }
     }
 }

@@ -33,6 +33,7 @@ fn trim(s: &[u8], n: usize) -> usize
 }
 
 // The line that `area` begins with.
+#[tactic(auto, unfolding(crate::specs::Line::line_of))]
 pub fn line_of(area: &[u8]) -> Option<Line>
     ensures { result ≡ line_of area.now }
 {

@@ -126,6 +126,7 @@ fn repeats(
 
 // What `line` says, field by field. Each unknown name is compared with all after it, unless the names are
 // known to be `apart`.
+#[tactic(auto, using(crate::specs::FieldLaws::part_placed))]
 fn read_each(line: &[u8], apart: bool) -> Option<Fields>
     requires { apart ≡ true → distinct_names line.now ≡ true }
     ensures { result ≡ read_of line.now }

@@ -1,7 +1,7 @@
 -- Laws of one page of a descent, one for each way that the code takes. s is the image up to the page's end.
 use Rattle.std.specs.Prelude.{ℕ, ◌+◌, max, ◌≡◌, List, get_or, take, Option, Ok, Err, option_map}
 use Rattle.refusal.specs.declared.Refusal.{Refusal}
-use Rattle.refusal.specs.Refusal.{Outcome}
+use Rattle.refusal.specs.Refusal.{Outcome, bind}
 use Rattle.position.specs.declared.Position.{Position}
 use Rattle.position.specs.Position.{of_bits}
 use Rattle.key.specs.declared.Kind.{Kind}
@@ -42,7 +42,7 @@ module _ (image : List ℕ) (c : Place) (p map : ℕ) (kind : Kind) (k : Key) {j
       rw (← g, e, ← i, child_for-children_of compare_keys k (positions_in s (q.n + 1) q.positions) (counts_in s (q.n + 1) q.counts) (keys_in s kind q.n q.keys), b, a)
 
 -- ## A descent after it
-pub advance_step : (s : Place → Outcome Step) (need : ℕ) {l : Outcome Location} {x : Place} {n : ℕ} (most : ℕ) {t : Step} {u : Outcome Step}
-    → l ≡ Ok (record { place = x; need = n }) → most ≡ max need n → u ≡ s x → u ≡ Ok t → Ok (advance_by most t) ≡ advance_of s need l
+pub advance_step : (s : Place → Outcome Step) (need : ℕ) {l : Outcome Location} {x : Place} {n : ℕ} (most : ℕ) {t u : Outcome Step}
+    → l ≡ Ok (record { place = x; need = n }) → most ≡ max need n → u ≡ s x → u ≡ t → bind t (λ v. Ok (advance_by most v)) ≡ advance_of s need l
 unfolding advance_of
 advance_step s need most e i h f = rw (e, i, ← h, f)

@@ -3,11 +3,11 @@
 --   prefix_chunk, prefix_name, prefix_root    the fixed byte strings `chunk.`, `name.` and `root.`
 --   chunk_key n, name_key name, root_key map  the keys of a chunk's place, a map's id and a map's root
 --   padded n s                                the text s in an array of n bytes: the bytes after it are 0
---   number_key s, long_key s                  a key with its length, in an array of 22 bytes and of 1,005
+--   key_bytes n s                             a key with its length, in an array of n bytes
+--   number_key s, long_key s                  the same in 22 bytes and in 1,005
 use Rattle.std.specs.Prelude.{ℕ, ◌-◌, List, [], ◌∷◌, ◌++◌, length, replicate}
 use Rattle.numeral.specs.Hex.{hex_text}
-use Rattle.metadata.specs.declared.keys.NumberKey.{NumberKey}
-use Rattle.metadata.specs.declared.keys.NameKey.{NameKey}
+use Rattle.metadata.specs.declared.keys.KeyBytes.{KeyBytes}
 
 -- `chunk.`
 abbrev pub prefix_chunk : List ℕ
@@ -37,10 +37,13 @@ root_key map = prefix_root ++ hex_text map
 abbrev pub padded : ℕ → List ℕ → List ℕ
 padded n s = s ++ replicate (n - length s) 0
 
+abbrev pub key_bytes : (n : ℕ) → List ℕ → KeyBytes n
+key_bytes n s = record { bytes = padded n s; len = length s }
+
 -- a prefix and 16 digits have room
-abbrev pub number_key : List ℕ → NumberKey
-number_key s = record { bytes = padded 22 s; len = length s }
+abbrev pub number_key : List ℕ → KeyBytes 22
+number_key = key_bytes 22
 
 -- a prefix and a name of 1,000 bytes have room
-abbrev pub long_key : List ℕ → NameKey
-long_key s = record { bytes = padded 1005 s; len = length s }
+abbrev pub long_key : List ℕ → KeyBytes 1005
+long_key = key_bytes 1005

@@ -11,7 +11,7 @@ ghost use Rattle.metadata.specs.Answers.{place_of, standing_by, id_of, root_of, 
 use chunk::Chunk;
 pub use descent::{Advance, Step, advance_at};
 use fletcher::Edition;
-pub use keys::{NAME, NameKey, NumberKey, chunk_key, name_key, root_key};
+pub use keys::{KeyBytes, NAME, chunk_key, name_key, root_key};
 use line::Name;
 use page::Place;
 use position::Position;

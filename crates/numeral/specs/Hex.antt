@@ -2,6 +2,7 @@
 --
 --   digit_of b      the value of the digit b; 16 for any other byte
 --   is_digit b      b is a digit
+--   digit_said b    the value of the digit b; none for any other byte
 --   hex_value s     the value of a run of digits
 --   shaped s        1 to 16 bytes, the first no `0` unless it is the only one
 --   hex_of s        what the text s is as a number
@@ -20,6 +21,9 @@ digit_of b = cond (within 48 57 b) (b - 48) (cond (within 97 102 b) (b - 87) 16)
 
 abbrev pub is_digit : ℕ → Bool
 is_digit b = ltb (digit_of b) 16
+
+abbrev pub digit_said : ℕ → Option ℕ
+digit_said b = cond (is_digit b) (Some (digit_of b)) None
 
 -- the value of digits that follow others of value v
 unfoldable pub hex_from : ℕ → List ℕ → ℕ

@@ -2,7 +2,7 @@
 --
 --   Kind b    what a byte is: a decimal digit, a letter that is a digit, or neither
 --   Shaped s  what `shaped s` says
-use Rattle.std.specs.Prelude.{ℕ, ◌+◌, ◌-◌, ◌<◌, ◌≤◌, ◌≡◌, Bool, cond, ◌&&◌, ◌||◌, List, ltb, length, get_or}
+use Rattle.std.specs.Prelude.{ℕ, ◌+◌, ◌-◌, ◌<◌, ◌≤◌, ◌≡◌, Bool, cond, ◌&&◌, ◌||◌, List, ltb, length, get_or, Some, None}
 use Rattle.std.proofs.Math.Path.{refl}
 use Rattle.std.proofs.Common.{◌∙◌, arith}
 use Rattle.std.proofs.Math.Bool.{true, false, not, and-false, true≢false}
@@ -10,7 +10,7 @@ use borrow.Author.Tests.{le-leb, lt-leb, lt-ltb, le-ltb, ltb-true, ltb-false, eq
 use Rattle.std.proofs.Math.Dec.{eqb}
 use Rattle.text.specs.Text.{within}
 use Rattle.text.specs.Laws.{within_true, true_within}
-use Rattle.numeral.specs.Hex.{digit_of, digit_byte, shaped}
+use Rattle.numeral.specs.Hex.{digit_of, digit_said, digit_byte, shaped}
 
 pub digit_of_decimal : (b : ℕ) → 48 ≤ b → b ≤ 57 → digit_of b ≡ b - 48
 unfolding digit_of
@@ -67,7 +67,16 @@ digit_of_zero b h = go (kind b)
     go (letter l u e) = absurd (omega arith)
     go (other e) = absurd (omega arith)
 
--- what is not 16 is a digit
+-- ## What is said of a byte
+pub said_decimal : (b : ℕ) → 48 ≤ b → b ≤ 57 → digit_said b ≡ Some (b - 48)
+said_decimal b l h = rw (digit_of_decimal b l h, lt-ltb (b - 48) 16 (omega arith))
+
+pub said_letter : (b : ℕ) → 97 ≤ b → b ≤ 102 → digit_said b ≡ Some (b - 87)
+said_letter b l h = rw (digit_of_letter b l h, lt-ltb (b - 87) 16 (omega arith))
+
+pub said_other : (b : ℕ) → (48 ≤ b → b ≤ 57 → ⊥) → (97 ≤ b → b ≤ 102 → ⊥) → digit_said b ≡ None
+said_other b f g = rw (digit_of_other b f g)
+
 pub digit_of_lt : (b : ℕ) {d : ℕ} → d ≡ digit_of b → (d ≡ 16 → ⊥) → digit_of b < 16
 digit_of_lt b q f = go (kind b)
   where
@@ -75,6 +84,22 @@ digit_of_lt b q f = go (kind b)
     go (decimal l u e) = omega arith
     go (letter l u e) = omega arith
     go (other e) = absurd (f (q ∙ e))
+
+-- what has a value is a digit, and the value is the digit's
+pub digit_said_some : (b : ℕ) {d : ℕ} → Some d ≡ digit_said b → (digit_of b < 16) × (d ≡ digit_of b)
+digit_said_some b {d = d} q = go (ltb (digit_of b) 16) refl q
+  where
+    go : (t : Bool) → ltb (digit_of b) 16 ≡ t → Some d ≡ cond t (Some (digit_of b)) None → (digit_of b < 16) × (d ≡ digit_of b)
+    go true e q = (ltb-true (digit_of b) 16 e, cc)
+    go false e q = absurd cc
+
+pub digit_of_none : (b : ℕ) → None ≡ digit_said b → digit_of b ≡ 16
+digit_of_none b q = go (kind b)
+  where
+    go : Kind b → digit_of b ≡ 16
+    go (decimal l u e) = absurd (let f = said_decimal b l u in cc)
+    go (letter l u e) = absurd (let f = said_letter b l u in cc)
+    go (other e) = e
 
 -- ## The shape of a number: 1 to 16 digits, the first no `0` unless it is the only one
 pub record Shaped (s : List ℕ) : Type 0 where

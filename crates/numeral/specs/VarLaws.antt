@@ -4,6 +4,7 @@
 --   Inside from to r  the place after r lies between the two, if it is a number
 --   VarRead           what a caller knows of a number that was read
 use Rattle.std.specs.Prelude.{ℕ, suc, ◌+◌, ◌*◌, ◌-◌, ◌/◌, ◌^◌, ◌<◌, ◌≤◌, ◌≡◌, refl, Bool, cond, List, [], ◌∷◌, eqb, length, get_or, drop, Option, Some, None}
+use Rattle.std.specs.Bool.{then_some}
 use Rattle.std.proofs.Common.{◌∙◌, arith, length-drop, drop_of_length-le, drop-cons}
 use Rattle.std.proofs.Math.Bool.{true, false}
 use Rattle.std.proofs.Math.Numerals.{add-one}
@@ -62,6 +63,15 @@ module _ (limit : ℕ) (s : List ℕ) (i : ℕ) where
       rw (drop-cons s i 0 h, le-ltb (get_or s i 0) 128 b, add-one i)
       (limited_more limit (get_or s i 0 - 128) (var_from (suc i) (drop (suc i) s)) (omega arith))
 
+  -- one byte is a number by itself
+  pub var_at_one : i < length s → get_or s i 0 < 128 →
+      var_at limit s i ≡ then_some (ltb (get_or s i 0) limit) (record { value = get_or s i 0; next = i + 1 })
+  var_at_one h b = go (ltb (get_or s i 0) limit) refl
+    where
+      go : (t : Bool) → ltb (get_or s i 0) limit ≡ t → var_at limit s i ≡ then_some t (record { value = get_or s i 0; next = i + 1 })
+      go true e = var_at_last h (ltb-true (get_or s i 0) limit e) b
+      go false e = var_at_over h (ltb-false (get_or s i 0) limit e)
+
 -- ## What was read
 abbrev pub Below : ℕ → Option Numeral → Type 0
 Below limit (Some n) = n.value < limit
@@ -86,6 +96,21 @@ var_at_fits limit low s i h l =
     go : (r : Option Numeral) → Below limit r → Fits64 r
     go (Some n) b = omega arith
     go None b = tt
+
+-- nor does a product or a sum on the way to it overflow
+pub var_at_room : (limit low : ℕ) (s : List ℕ) (i : ℕ) {n : Numeral} → low < limit → limit ≤ 2 ^ 64 →
+    var_at ((limit - low - 1) / 128 + 1) s i ≡ Some n → (n.value ≡ 0 → ⊥) → n.value * 128 + low < 2 ^ 64
+unfolding continued Fits64
+var_at_room limit low s i {n = n} h l e z = rw (e, ne_eqb n.value 0 z) at (var_at_fits limit low s i h l)
+
+-- no byte follows one that asks for another
+pub var_at_short : (limit : ℕ) (s : List ℕ) (i : ℕ) → i < length s → length s ≤ i + 1 → 128 ≤ get_or s i 0 → var_at limit s i ≡ None
+unfolding continued
+var_at_short limit s i h l b = go (ltb (get_or s i 0) limit) refl
+  where
+    go : (t : Bool) → ltb (get_or s i 0) limit ≡ t → var_at limit s i ≡ None
+    go true e = var_at_more limit s i h (ltb-true (get_or s i 0) limit e) b ∙ rw (var_at_past _ s (i + 1) l)
+    go false e = var_at_over limit s i h (ltb-false (get_or s i 0) limit e)
 
 -- ## A number of two bytes
 pub var_at_pair : (limit : ℕ) (s : List ℕ) (i : ℕ) → i + 1 < length s → 128 ≤ get_or s i 0 → 0 < get_or s (i + 1) 0 → get_or s (i + 1) 0 < 128

@@ -1,6 +1,6 @@
 // Hexadecimal numbers of lines and of metadata values: 1 to 16 digits, no leading zero unless `0`.
 ghost use Rattle.std.specs.Prelude.{◌<◌, ◌≡◌};
-ghost use Rattle.numeral.specs.Hex.{digit_of, hex_of, hex_run_at, digit_byte, Written};
+ghost use Rattle.numeral.specs.Hex.{digit_said, hex_of, hex_run_at, digit_byte, text_of, Written};
 
 use super::Numeral;
 
@@ -11,53 +11,47 @@ pub struct Digits {
     pub start: usize,
 }
 
-// The value of a digit, 16 for any other byte.
-fn digit_value(b: u8) -> u64
-    ensures { result ≡ digit_of b }
+impl Digits {
+    pub fn text(&self) -> &[u8]
+        ensures { result.now ≡ text_of self.now }
+    {
+        self.bytes.get(self.start..).unwrap_or(&[])
+    }
+}
+
+// The value of a digit.
+fn digit_value(b: u8) -> Option<u64>
+    ensures { result ≡ digit_said b }
 {
-    if b < 48 {
-        return 16;
+    match b {
+        b'0'..=b'9' => Some(u64::from(b - b'0')),
+        b'a'..=b'f' => Some(u64::from(b - b'a') + 10),
+        _ => None,
     }
-    if b <= 57 {
-        return (b - 48) as u64;
-    }
-    if b < 97 {
-        return 16;
-    }
-    if b <= 102 {
-        return (b - 87) as u64;
-    }
-    16
 }
 
 // The number that the run of digits at `at` is, and the place after the run.
 pub fn hex_at(s: &[u8], at: usize) -> Option<Numeral>
     ensures { result ≡ hex_run_at s.now at }
 {
-    if s.len() <= at {
-        return None;
-    }
-    let first = s[at];
-    let mut value = digit_value(first);
-    if value == 16 {
-        return None;
-    }
-    let mut i = at + 1;
-    while i < s.len() {
-        let d = digit_value(s[i]);
-        if d == 16 {
+    let first = *s.get(at)?;
+    let mut value = digit_value(first)?;
+    for i in at + 1..s.len() {
+        let Some(d) = digit_value(s[i]) else {
             return Some(Numeral { value, next: i });
-        }
-        if first == 48 {
+        };
+        if first == b'0' {
             return None;
         }
         if i - at == 16 {
             return None;
         }
         value = value * 16 + d;
-        i += 1;
     }
-    Some(Numeral { value, next: i })
+    Some(Numeral {
+        value,
+        next: s.len(),
+    })
 }
 
 // The number that the whole text is.
@@ -76,7 +70,11 @@ fn digit_byte(d: u64) -> u8
     requires { d < 16 }
     ensures { result ≡ digit_byte d }
 {
-    if d < 10 { d as u8 + 48 } else { d as u8 + 87 }
+    if d < 10 {
+        b'0' + d as u8
+    } else {
+        b'a' + (d - 10) as u8
+    }
 }
 
 // The digits of `n`, the low one last.
@@ -86,6 +84,7 @@ pub fn write_hex(n: u64) -> Digits
     let mut bytes = [0u8; 16];
     let mut start: usize = 16;
     let mut left = n;
+    // By what is left of the number, which no range counts.
     while 16 <= left {
         start -= 1;
         bytes[start] = digit_byte(left % 16);

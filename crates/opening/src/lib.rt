@@ -7,7 +7,7 @@ ghost use Rattle.std.specs.Prelude.{◌≡◌};
 ghost use Rattle.chunk.specs.Image.{blocks_in};
 ghost use Rattle.opening.specs.Opening.{header_start, footer_start, higher, successor, chain, opened};
 
-use chunk::{Chunk, blocks_in, footer_line, is_footer, said_at, stands_at, with_id};
+use chunk::{Chunk, footer_line, is_footer, right_blocks, said_at, stands_at, with_id};
 use fletcher::Edition;
 pub use header::{Copy, header_of};
 use line::Name;
@@ -41,6 +41,7 @@ fn header_start(image: &[u8], edition: Edition, copy: Copy) -> Option<Chunk>
 }
 
 // The chunk that the image's last footer names, if it ends where the image ends.
+#[tactic(auto, using(chunk::specs::ChunkLaws::stands_unsaid), unfolding(crate::specs::Opening::footer_start))]
 fn footer_start(image: &[u8], edition: Edition, blocks: u32) -> Option<Chunk>
     requires { blocks ≡ blocks_in image.now }
     ensures { result ≡ footer_start image.now edition }
@@ -49,7 +50,7 @@ fn footer_start(image: &[u8], edition: Edition, blocks: u32) -> Option<Chunk>
     let block = r.get(Name::Block)?;
     let c = said_at(image, block)?;
     let end = c.block as u64 + c.len as u64;
-    (end == blocks as u64 && is_footer(c, &r)).then_some(c)
+    (end == blocks as u64 && is_footer(c, Some(&r))).then_some(c)
 }
 
 // The start with the higher version, the lower block at a tie.
@@ -90,11 +91,11 @@ fn follow(image: &[u8], edition: Edition, c: Chunk) -> Chunk
 }
 
 // The newest chunk of the image in an edition, or the refusal 2, 3 or 4.
-#[tactic(auto, unfolding(crate::specs::Opening::opened, crate::specs::Opening::newest_from))]
+#[tactic(auto, using(chunk::specs::ImageLaws::right_some), unfolding(crate::specs::Opening::opened, crate::specs::Opening::newest_from))]
 pub fn open(image: &[u8], edition: Edition) -> Result<Chunk, Refusal>
     ensures { result ≡ opened image.now edition }
 {
-    let blocks = blocks_in(image).ok_or(Refusal::ImageSize)?;
+    let blocks = right_blocks(image).ok_or(Refusal::ImageSize)?;
     let copy = header_of(image, edition).ok_or(Refusal::NoHeader)?;
     let by_header = header_start(image, edition, copy);
     let by_footer = footer_start(image, edition, blocks);

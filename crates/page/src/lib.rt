@@ -71,6 +71,7 @@ pub fn cut(image: &[u8], end: usize) -> &[u8]
     &image[..end.min(image.len())]
 }
 
+#[tactic(auto, unfolding(crate::specs::Judged::begins))]
 fn page_begins(chunk: Place, offset: u32) -> bool
     ensures { result ≡ begins chunk offset }
 {
@@ -86,6 +87,7 @@ fn page_begins(chunk: Place, offset: u32) -> bool
 }
 
 // `room` is what lies between the page's first byte and the footer.
+#[tactic(auto, unfolding(crate::specs::Judged::length_fits))]
 fn length_fits(code: u32, n: u32, room: usize) -> bool
     ensures { result ≡ length_fits code n room }
 {
@@ -96,6 +98,7 @@ fn length_fits(code: u32, n: u32, room: usize) -> bool
 }
 
 // How a kind's keys are written.
+#[tactic(auto, unfolding(crate::specs::Judged::key_form))]
 #[inline(always)]
 pub fn key_form(kind: Kind) -> Form
     ensures { result ≡ key_form kind }
@@ -117,6 +120,7 @@ fn whole(s: &[u8], end: usize, page: Judged) -> Result<Judged, Refusal>
     }
 }
 
+#[tactic(auto, unfolding(crate::specs::Judged::leaf_at))]
 fn leaf_at(s: &[u8], form: Form, n: u32, at: usize) -> Result<Judged, Refusal>
     ensures { result ≡ leaf_at s.now form n at }
 {
@@ -131,6 +135,7 @@ fn leaf_at(s: &[u8], form: Form, n: u32, at: usize) -> Result<Judged, Refusal>
     whole(s, end, Judged::Leaf(page))
 }
 
+#[tactic(auto, unfolding(crate::specs::Judged::inner_at))]
 fn inner_at(s: &[u8], form: Form, n: u32, at: usize) -> Result<Judged, Refusal>
     ensures { result ≡ inner_at s.now form n at }
 {
@@ -160,6 +165,7 @@ fn body(s: &[u8], page_type: u32, kind: Kind, n: u32, at: usize) -> Result<Judge
 }
 
 // The fields from the map id to the type byte; `s` is the image up to the page's end.
+#[tactic(auto, unfolding(crate::specs::Judged::fields_at))]
 fn fields(s: &[u8], at: usize, page_type: u32, map: u32) -> Result<Head, Refusal>
     ensures { result ≡ fields_at s.now at page_type map }
 {
@@ -182,6 +188,7 @@ fn fields(s: &[u8], at: usize, page_type: u32, map: u32) -> Result<Head, Refusal
 }
 
 // The head of the page at a position in its chunk, due for a map.
+#[tactic(auto, using(crate::specs::JudgedLaws::begins_room), unfolding(crate::specs::Judged::head_at))]
 fn head_at(image: &[u8], chunk: Place, position: Position, map: u32) -> Result<Head, Refusal>
     ensures { result ≡ head_at image.now chunk position.bits map }
 {
@@ -207,6 +214,7 @@ fn head_at(image: &[u8], chunk: Place, position: Position, map: u32) -> Result<H
 }
 
 // The page at a position in its chunk, due for a map of a kind.
+#[tactic(auto, unfolding(crate::specs::Judged::judged_at))]
 pub fn judge(
     image: &[u8],
     chunk: Place,

@@ -56,17 +56,18 @@ fn leaf_of(image: &[u8], kind: Kind, leaf: Leaf, span: Span, top: bool) -> Resul
     })
 }
 
-// A page that is judged: its own rules before its keys, its separators before its children.
+// A page that is judged: its own rules before its keys, its separators before its children. A refusal
+// given for it is handed up.
 pub fn part_at(
     image: &[u8],
     kind: Kind,
-    page: Judged,
+    page: Result<Judged, Refusal>,
     span: Span,
     top: bool,
 ) -> Result<Part, Refusal>
-    ensures { result ≡ part_of image.now kind span top (Ok page) }
+    ensures { result ≡ part_of image.now kind span top page }
 {
-    match page {
+    match page? {
         Judged::Leaf(leaf) => {
             let report = leaf_of(image, kind, leaf, span, top)?;
             Ok(Part::Leaf(report))

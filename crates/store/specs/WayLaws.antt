@@ -73,69 +73,60 @@ module _ (image : List ℕ) (store : Store) (map : ℕ) (kind : Kind) where
         same = sym (map_next_lem (reader image store map kind) (take depth places) root (omega (arith, sized)) filled);
       }
 
-      module _ {l p : ℕ} {left : Option Left} (g : Going l p left) {j : Outcome Judged} (r : j ≡ judged_by image store map kind p) where
+      module _ {l p : ℕ} {left : Option Left} (g : Going l p left) {j : Outcome Judged} (r : j ≡ judged_by image store map kind p)
+          {a : Outcome After} (f : a ≡ after_of image kind (get_or places l 0) (eqb (l + 1) depth) j) where
         here : get_or (take depth places) l 0 ≡ get_or places l 0
         here = get_or-take depth places l 0 g.below
 
-        turned : {b : Outcome After} → after_of image kind (get_or places l 0) (eqb (l + 1) depth) j ≡ b
-            → NextBy image store map kind (take depth places) (past_of (take depth places) left) l p b
+        turned : {b : Outcome After} → a ≡ b → NextBy image store map kind (take depth places) (past_of (take depth places) left) l p b
         turned {b} came =
             let low : l < depth = g.below in
             let nums = take depth places in
             let e : after_of image kind (get_or nums l 0) (eqb (l + 1) (length nums)) (judged_by image store map kind p) ≡ b =
-            rw (here, sized, ← r) came in
+            rw (here, sized, ← r, ← f) came in
             rw e at (next_by_lem image store map kind (take depth places) (past_of (take depth places) left) l p (omega arith) (omega (arith, sized)))
 
-        -- a page that is not read
-        pub going_unread : {y : Refusal} → j ≡ Err y → EndsDown image store map kind (take depth places) root (Err y)
-        unfolding EndsDown after_of
-        going_unread {y} i = sym g.same ∙ turned {b = Err y} (rw i)
+        pub going_refused : {y : Refusal} → a ≡ Err y → EndsDown image store map kind (take depth places) root (Err y)
+        unfolding EndsDown
+        going_refused came = sym g.same ∙ turned came
 
-        module _ {x : Judged} (i : j ≡ Ok x) {a : Outcome After} (f : a ≡ after_of image kind (get_or places l 0) (eqb (l + 1) depth) (Ok x)) where
-          answered : {b : Outcome After} → a ≡ b → NextBy image store map kind (take depth places) (past_of (take depth places) left) l p b
-          answered came = turned (rw (i, ← f) came)
+        pub going_entry : {e : Entry} → a ≡ Ok (after.Entry e)
+            → EndsDown image store map kind (take depth places) root (Ok (down.Entry l (get_or places l 0 + 1) e))
+        unfolding EndsDown
+        going_entry came =
+            let t = turned came in
+            let up : suc (get_or (take depth places) l 0) ≡ get_or places l 0 + 1 = omega (arith, here) in
+            (t.0, t.1, t.2, sym up, sym g.same ∙ t.3 ∙ ap (λ n. prefixed (take l (take depth places)) t.0 n []) up)
 
-          pub going_refused : {y : Refusal} → a ≡ Err y → EndsDown image store map kind (take depth places) root (Err y)
-          unfolding EndsDown
-          going_refused came = sym g.same ∙ answered came
+        -- the number after it is one that the state can hold
+        pub entry_few : {e : Entry} → a ≡ Ok (after.Entry e) → get_or places l 0 < 0x80000000
+        entry_few came = omega (arith, (turned came).4, here)
 
-          pub going_entry : {e : Entry} → a ≡ Ok (after.Entry e)
-              → EndsDown image store map kind (take depth places) root (Ok (down.Entry l (get_or places l 0 + 1) e))
-          unfolding EndsDown
-          going_entry came =
-              let t = answered came in
-              let up : suc (get_or (take depth places) l 0) ≡ get_or places l 0 + 1 = omega (arith, here) in
-              (t.0, t.1, t.2, sym up, sym g.same ∙ t.3 ∙ ap (λ n. prefixed (take l (take depth places)) t.0 n []) up)
+        pub child_few : {q y : Position} → a ≡ Ok (after.Child q y) → get_or places l 0 < 0x80000000
+        child_few came = omega (arith, (turned came).2, here)
 
-          -- the number after it is one that the state can hold
-          pub entry_few : {e : Entry} → a ≡ Ok (after.Entry e) → get_or places l 0 < 0x80000000
-          entry_few came = omega (arith, (answered came).4, here)
+        pub going_over : a ≡ Ok after.Over → {d : Down} → d ≡ over_of left → EndsDown image store map kind (take depth places) root (Ok d)
+        going_over came e =
+            rw e (past_came (take depth places) root l left (omega (arith, sized, g.below)) g.noted (sym g.same ∙ turned came))
 
-          pub child_few : {q y : Position} → a ≡ Ok (after.Child q y) → get_or places l 0 < 0x80000000
-          child_few came = omega (arith, (answered came).2, here)
+        pub going_last : {q : Position} → a ≡ Ok (after.Last q) → Going (l + 1) q.bits left
+        going_last {q} came =
+            let t = turned came in
+            record {
+              below = omega (arith, t.0, sized);
+              noted = noted_on (take depth places) l left g.noted;
+              same = rw (add-one l) (sym t.1 ∙ g.same);
+            }
 
-          pub going_over : a ≡ Ok after.Over → {d : Down} → d ≡ over_of left → EndsDown image store map kind (take depth places) root (Ok d)
-          going_over came e =
-              rw e (past_came (take depth places) root l left (omega (arith, sized, g.below)) g.noted (sym g.same ∙ answered came))
-
-          pub going_last : {q : Position} → a ≡ Ok (after.Last q) → Going (l + 1) q.bits left
-          going_last {q} came =
-              let t = answered came in
-              record {
-                below = omega (arith, t.0, sized);
-                noted = noted_on (take depth places) l left g.noted;
-                same = rw (add-one l) (sym t.1 ∙ g.same);
-              }
-
-          pub going_child : {q y : Position} → a ≡ Ok (after.Child q y)
-              → Going (l + 1) q.bits (Some (record { level = l; number = get_or places l 0 + 1; position = y }))
-          going_child {q} {y} came =
-              let t = answered came in
-              record {
-                below = omega (arith, t.0, sized);
-                noted = (omega arith, omega (arith, here));
-                same = rw (add-one l) (sym t.1 ∙ g.same);
-              }
+        pub going_child : {q y : Position} → a ≡ Ok (after.Child q y)
+            → Going (l + 1) q.bits (Some (record { level = l; number = get_or places l 0 + 1; position = y }))
+        going_child {q} {y} came =
+            let t = turned came in
+            record {
+              below = omega (arith, t.0, sized);
+              noted = (omega arith, omega (arith, here));
+              same = rw (add-one l) (sym t.1 ∙ g.same);
+            }
 
   -- ## The leftmost way
   pub record Lefting (level p depth q : ℕ) : Type 0 where
@@ -154,53 +145,51 @@ module _ (image : List ℕ) (store : Store) (map : ℕ) (kind : Kind) where
     unfolding EndsLeft
     lefting_deep h = λ pre e. g.same pre e ∙ leftmost_deep (reader image store map kind) pre (depth - level) q (omega (arith, g.low))
 
-    module _ (room : depth < 16) {j : Outcome Judged} (r : j ≡ judged_by image store map kind q) where
-      firsted : {b : Outcome After} → first_of image kind j ≡ b → FirstBy image store map kind q b
+    module _ (room : depth < 16) {j : Outcome Judged} (r : j ≡ judged_by image store map kind q)
+        {a : Outcome After} (f : a ≡ first_of image kind j) where
+      firsted : {b : Outcome After} → a ≡ b → FirstBy image store map kind q b
       firsted {b} came =
-          let e : first_of image kind (judged_by image store map kind q) ≡ b = rw (← r) came in
+          let e : first_of image kind (judged_by image store map kind q) ≡ b = rw (← r, ← f) came in
           rw e at (first_by image store map kind q)
 
-      -- a page that is not read
-      pub lefting_refused : {y : Refusal} → j ≡ Err y → EndsLeft image store map kind level p (Err y)
-      unfolding EndsLeft first_of
-      lefting_refused {y} i = λ pre e. g.same pre e ∙ firsted {b = Err y} (rw i) pre (depth - level) (omega (arith, g.low))
+      pub lefting_refused : {y : Refusal} → a ≡ Err y → EndsLeft image store map kind level p (Err y)
+      unfolding EndsLeft
+      lefting_refused came = λ pre e. g.same pre e ∙ firsted came pre (depth - level) (omega (arith, g.low))
 
-      module _ {x : Judged} (i : j ≡ Ok x) {a : After} (f : Ok a ≡ first_of image kind (Ok x)) where
-        begun : {b : After} → a ≡ b → FirstBy image store map kind q (Ok b)
-        begun {b} came = firsted {b = Ok b} (rw (i, ← f, came))
+      pub lefting_entry : {e : Entry} → a ≡ Ok (after.Entry e)
+          → EndsLeft image store map kind level p (Ok (Some (record { depth = depth + 1; entry = e })))
+      unfolding EndsLeft
+      lefting_entry came =
+          let t = firsted came in
+          let down : depth + 1 - 1 - level ≡ depth - level = omega arith in
+          (t.0, t.1, omega (arith, g.low), omega arith, λ pre e. rw down (g.same pre e ∙ t.2 pre (depth - level) (omega (arith, g.low))))
 
-        pub lefting_entry : {e : Entry} → a ≡ after.Entry e
-            → EndsLeft image store map kind level p (Ok (Some (record { depth = depth + 1; entry = e })))
-        unfolding EndsLeft
-        lefting_entry came =
-            let t = begun came in
-            let down : depth + 1 - 1 - level ≡ depth - level = omega arith in
-            (t.0, t.1, omega (arith, g.low), omega arith, λ pre e. rw down (g.same pre e ∙ t.2 pre (depth - level) (omega (arith, g.low))))
+      pub lefting_over : a ≡ Ok after.Over → depth ≡ 0 → EndsLeft image store map kind level p (Ok None)
+      unfolding EndsLeft
+      lefting_over came z = λ pre e.
+          g.same pre e ∙ (firsted came pre (depth - level) (omega (arith, g.low))).0 (omega (arith, g.low))
 
-        pub lefting_over : a ≡ after.Over → depth ≡ 0 → EndsLeft image store map kind level p (Ok None)
-        unfolding EndsLeft
-        lefting_over came z = λ pre e.
-            g.same pre e ∙ (begun came pre (depth - level) (omega (arith, g.low))).0 (omega (arith, g.low))
+      pub lefting_empty : a ≡ Ok after.Over → (depth ≡ 0 → ⊥) → EndsLeft image store map kind level p (Err unsound)
+      unfolding EndsLeft
+      lefting_empty came other = λ pre e.
+          g.same pre e ∙ (firsted came pre (depth - level) (omega (arith, g.low))).1 (omega (arith, g.low, other))
 
-        pub lefting_empty : a ≡ after.Over → (depth ≡ 0 → ⊥) → EndsLeft image store map kind level p (Err unsound)
-        unfolding EndsLeft
-        lefting_empty came other = λ pre e.
-            g.same pre e ∙ (begun came pre (depth - level) (omega (arith, g.low))).1 (omega (arith, g.low, other))
+      pub lefting_last : {z : Position} → a ≡ Ok (after.Last z) → Lefting level p (depth + 1) z.bits
+      lefting_last {z} came =
+          let t = firsted came in
+          record {
+            low = omega (arith, g.low);
+            most = omega arith;
+            same = λ pre e.
+                let more : depth + 1 - level ≡ suc (depth - level) = omega (arith, g.low) in
+                rw more (g.same pre e ∙ t pre (depth - level) (omega (arith, g.low)));
+          }
 
-        pub lefting_last : {z : Position} → a ≡ after.Last z → Lefting level p (depth + 1) z.bits
-        lefting_last {z} came =
-            let t = begun came in
-            record {
-              low = omega (arith, g.low);
-              most = omega arith;
-              same = λ pre e.
-                  let more : depth + 1 - level ≡ suc (depth - level) = omega (arith, g.low) in
-                  rw more (g.same pre e ∙ t pre (depth - level) (omega (arith, g.low)));
-            }
+      -- the first child has no other noted with it
+      pub lefting_child : {z y : Position} → a ≡ Ok (after.Child z y) → ⊥
+      lefting_child came = firsted came
 
-        -- the first child has no other noted with it
-        pub lefting_child : {z y : Position} → a ≡ after.Child z y → ⊥
-        lefting_child came = begun came
-
-        pub lefting_on : {z : Position} → (a ≡ after.Last z) ⊎ ((y : Position) × (a ≡ after.Child z y)) → Lefting level p (depth + 1) z.bits
-        lefting_on came = ⊎_elim lefting_last (λ child. absurd (lefting_child child.1)) came
+      -- either way a child is found at z
+      pub lefting_on : {x : After} {z : Position} → a ≡ Ok x → (x ≡ after.Last z) ⊎ ((y : Position) × (x ≡ after.Child z y))
+          → Lefting level p (depth + 1) z.bits
+      lefting_on is came = ⊎_elim (λ last. lefting_last (is ∙ ap Ok last)) (λ child. absurd (lefting_child (is ∙ ap Ok child.1))) came

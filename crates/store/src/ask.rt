@@ -6,7 +6,7 @@ ghost use Rattle.store.specs.Store.{pages_of};
 ghost use Rattle.store.specs.Asking.{lookup_in, index_in, count_in, value_of, fetched_of};
 
 use super::asked::Asked;
-use super::room::{SMALL, few_words, many_words};
+use super::room::{MANY, with_words};
 use super::{Map, QUESTIONS};
 use content::Entry;
 use key::Kind;
@@ -72,12 +72,7 @@ pub fn lookup(
         id: map,
         kind,
     };
-    if image.len() < SMALL {
-        let mut memory = few_words();
-        return Asked::new(image, m, &mut memory).lookup(key);
-    }
-    let mut memory = many_words();
-    Asked::new(image, m, &mut memory).lookup(key)
+    with_words(image, |words| Asked::new(image, m, words).lookup(key))
 }
 
 // The entry numbered `index` of the map, from 0.
@@ -89,12 +84,7 @@ pub fn index(image: &[u8], store: Store, map: u32, kind: Kind, index: u64) -> Re
         id: map,
         kind,
     };
-    if image.len() < SMALL {
-        let mut memory = few_words();
-        return Asked::new(image, m, &mut memory).index(index);
-    }
-    let mut memory = many_words();
-    Asked::new(image, m, &mut memory).index(index)
+    with_words(image, |words| Asked::new(image, m, words).index(index))
 }
 
 // How many entries the map has, by its root.
@@ -106,6 +96,6 @@ pub fn count(image: &[u8], store: Store, map: u32, kind: Kind) -> Result<u64, Re
         id: map,
         kind,
     };
-    let mut memory = many_words();
+    let mut memory = [0u64; MANY];
     Asked::new(image, m, &mut memory).count()
 }

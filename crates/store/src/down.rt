@@ -18,7 +18,7 @@ impl<'a> Asked<'a> {
         let mut left = None;
         for level in 0..w.depth {
             let i = w.places[level as usize];
-            let page = self.read_page(p)?;
+            let page = self.read_page(p);
             match after_at(self.image, self.map.kind, page, i, level + 1 == w.depth)? {
                 After::Entry(entry) => {
                     return Ok(Down::Entry {
@@ -54,8 +54,8 @@ impl<'a> Asked<'a> {
     {
         let mut q = p;
         for depth in level..16 {
-            let page = self.read_page(q)?;
-            match first_at(self.image, self.map.kind, page) {
+            let page = self.read_page(q);
+            match first_at(self.image, self.map.kind, page)? {
                 After::Entry(entry) => {
                     let depth = depth + 1;
                     return Ok(Some(Leftmost { depth, entry }));

@@ -5,7 +5,7 @@ ghost use Rattle.store.specs.Examining.{tallied, over_children, examine_in, exam
 
 use super::Map;
 use super::asked::Asked;
-use super::room::{SMALL, few_words, many_words};
+use super::room::with_words;
 use key::Kind;
 use opening::Store;
 use page::Inner;
@@ -60,7 +60,7 @@ impl<'a> Asked<'a> {
         if levels == 0 {
             return Err(Refusal::TooDeep);
         }
-        let page = self.read_page(p)?;
+        let page = self.read_page(p);
         match part_at(self.image, self.map.kind, page, span, top)? {
             Part::Leaf(report) => Ok(report),
             Part::Children(inner) => {
@@ -118,10 +118,5 @@ pub fn examine(image: &[u8], store: Store, map: u32, kind: Kind) -> Result<Repor
         id: map,
         kind,
     };
-    if image.len() < SMALL {
-        let mut memory = few_words();
-        return Asked::new(image, m, &mut memory).examine();
-    }
-    let mut memory = many_words();
-    Asked::new(image, m, &mut memory).examine()
+    with_words(image, |words| Asked::new(image, m, words).examine())
 }

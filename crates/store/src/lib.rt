@@ -27,7 +27,7 @@ use page::Place;
 use position::Position;
 use read::asked_root;
 use refusal::Refusal;
-use room::many_words;
+use room::MANY;
 pub use walking::advance;
 
 // A map that is asked: by its store, its id and its kind.
@@ -58,7 +58,7 @@ pub const QUESTIONS: u32 = 8;
 pub fn chunk_place(image: &[u8], store: Store, chunk: u32) -> Result<Place, Refusal>
     ensures { result ≡ chunk_at image.now store 8 chunk }
 {
-    let mut memory = many_words();
+    let mut memory = [0u64; MANY];
     let mut asked = Asked::new(image, Map::metadata(store), &mut memory);
     located_by(asked.locate(chunk, QUESTIONS))
 }
@@ -73,9 +73,9 @@ pub fn map_id(image: &[u8], store: Store, name: &[u8]) -> Result<u32, Refusal>
     let key = name_key(name);
     let m = Map::metadata(store);
     let root = asked_root(store);
-    let mut memory = many_words();
+    let mut memory = [0u64; MANY];
     let mut asked = Asked::new(image, m, &mut memory);
-    let f = asked.descend(m.id, m.kind, root, &key.bytes[..key.len], QUESTIONS);
+    let f = asked.descend(m.id, m.kind, root, key.text(), QUESTIONS);
     id_by(image, f)
 }
 
@@ -83,7 +83,7 @@ pub fn map_id(image: &[u8], store: Store, name: &[u8]) -> Result<u32, Refusal>
 pub fn map_root(image: &[u8], store: Store, map: u32) -> Result<Position, Refusal>
     ensures { root_said result ≡ map_root image.now store map }
 {
-    let mut memory = many_words();
+    let mut memory = [0u64; MANY];
     let mut asked = Asked::new(image, Map::metadata(store), &mut memory);
     asked.root_at(map)
 }

@@ -38,7 +38,7 @@ impl<'a> Asked<'a> {
         }
         let key = chunk_key(c);
         let m = Map::metadata(store);
-        let f = self.descend(m.id, m.kind, newest.root, &key.bytes[..key.len], q - 1);
+        let f = self.descend(m.id, m.kind, newest.root, key.text(), q - 1);
         settle(self.words, self.image, store.edition, c, f)
     }
 

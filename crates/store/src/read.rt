@@ -43,7 +43,7 @@ impl<'a> Asked<'a> {
         }
         let key = root_key(map);
         let m = Map::metadata(store);
-        let f = self.descend(m.id, m.kind, root, &key.bytes[..key.len], QUESTIONS);
+        let f = self.descend(m.id, m.kind, root, key.text(), QUESTIONS);
         root_by(self.image, f)
     }
 }

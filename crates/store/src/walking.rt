@@ -6,7 +6,7 @@ ghost use Rattle.store.specs.Walk.{step_in};
 
 use super::Map;
 use super::asked::Asked;
-use super::room::{SMALL, few_words, many_words};
+use super::room::with_words;
 use cursor::{Down, Stepped, Walk, is_formed, left_step, numbered};
 use key::Kind;
 use opening::Store;
@@ -68,10 +68,5 @@ pub fn advance(image: &[u8], store: Store, map: u32, kind: Kind, w: Walk) -> Ste
         id: map,
         kind,
     };
-    if image.len() < SMALL {
-        let mut memory = few_words();
-        return Asked::new(image, m, &mut memory).advance(w);
-    }
-    let mut memory = many_words();
-    Asked::new(image, m, &mut memory).advance(w)
+    with_words(image, |words| Asked::new(image, m, words).advance(w))
 }

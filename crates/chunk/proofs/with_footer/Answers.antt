@@ -3,12 +3,8 @@ use mathlib.Core.Path.{◌≡◌, refl, ◌∙◌}
 use Rattle.std.specs.Bool.{then_some}
 use Rattle.std.specs.Prelude.{Some, None}
 use Rattle.chunk.specs.declared.Chunk.{Chunk}
-use Rattle.chunk.specs.Chunk.{footer_of, footed}
+use Rattle.chunk.specs.Chunk.{footed}
 use Rattle.chunk.proofs.with_footer.Goals as goal
-
-pub returns-in_err-r : goal.returns-in_err-r
-unfolding footed footer_of
-returns-in_err-r c = rw (← c.footer_line.ensures, c.in_err-r.was) c.from_residual.ensures
 
 chosen : (b : Bool) (c : Chunk) → then_some b c ≡ cond b (Some c) None
 chosen true c = refl
@@ -17,4 +13,4 @@ chosen false c = refl
 pub returns : goal.returns
 unfolding footed
 returns c =
-    rw (← c.footer_line.ensures, c.in_ok-r.was, ← c.is_footer.ensures) (c.then_some.ensures ∙ chosen c.is_footer.result c.args.c)
+    rw (← c.footer_line-r.ensures, ← c.as_ref.ensures.value, ← c.is_footer.ensures) (c.then_some.ensures ∙ chosen c.is_footer.result c.args.c)

@@ -1,12 +1,8 @@
 use native.Mathlib.Omega.{arith}
 use mathlib.Core.Path.{sym, ◌∙◌}
 use Rattle.item.specs.ItemLaws.{item_lies}
-use Rattle.content.specs.KeyLaws.{probe_at_lem, probe_bad}
+use Rattle.content.specs.KeyLaws.{probe_ordered}
 use Rattle.content.proofs.probe_key.Goals as goal
-
-pub returns-in_err-item : goal.returns-in_err-item
-returns-in_err-item c =
-    c.from_residual.ensures ∙ sym (probe_bad _ _ _ _ (rw c.key_form.ensures at (sym c.item_at.ensures ∙ c.in_err-item.was)))
 
 pub slice_bounds-compare-count : goal.slice_bounds-compare-count
 slice_bounds-compare-count c =
@@ -22,24 +18,12 @@ slice_bounds-compare-end c =
 
 pub returns-in-Less : goal.returns-in-Less
 returns-in-Less c =
-    rw (
-      probe_at_lem _ _ _ _ (rw c.key_form.ensures at (sym c.item_at.ensures ∙ c.in_ok-item.was)),
-      ← c.compare-o.ensures,
-      c.in-Less.is,
-    )
+    sym (probe_ordered _ _ _ _ (rw c.key_form.ensures at (sym c.item_at.ensures ∙ c.in_ok-item.was)) (sym c.compare-o.ensures ∙ c.in-Less.is))
 
 pub returns-in-Equal : goal.returns-in-Equal
 returns-in-Equal c =
-    rw (
-      probe_at_lem _ _ _ _ (rw c.key_form.ensures at (sym c.item_at.ensures ∙ c.in_ok-item.was)),
-      ← c.compare-o.ensures,
-      c.in-Equal.is,
-    )
+    sym (probe_ordered _ _ _ _ (rw c.key_form.ensures at (sym c.item_at.ensures ∙ c.in_ok-item.was)) (sym c.compare-o.ensures ∙ c.in-Equal.is))
 
 pub returns-in-Greater : goal.returns-in-Greater
 returns-in-Greater c =
-    rw (
-      probe_at_lem _ _ _ _ (rw c.key_form.ensures at (sym c.item_at.ensures ∙ c.in_ok-item.was)),
-      ← c.compare-o.ensures,
-      c.in-Greater.is,
-    )
+    sym (probe_ordered _ _ _ _ (rw c.key_form.ensures at (sym c.item_at.ensures ∙ c.in_ok-item.was)) (sym c.compare-o.ensures ∙ c.in-Greater.is))

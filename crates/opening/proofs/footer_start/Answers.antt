@@ -6,33 +6,10 @@ use Rattle.std.specs.Bool.{then_some}
 use Rattle.std.specs.Prelude.{Some, None}
 use Rattle.chunk.specs.declared.Chunk.{Chunk}
 use Rattle.opening.specs.Opening.{footer_start}
-use Rattle.chunk.specs.ChunkLaws.{stands_footed, stands_unsaid}
+use Rattle.chunk.specs.ChunkLaws.{stands_footed}
 use Rattle.opening.specs.OpeningLaws.{footed_elsewhere, footed_ending}
 use Rattle.opening.proofs.footer_start.Goals as goal
 use Rattle.opening.proofs.footer_start.Goals.{then-end-blocks, else-end-blocks}
-
-pub returns-in_err-r : goal.returns-in_err-r
-unfolding footer_start
-returns-in_err-r c = rw (← c.requires, ← c.footer_line.ensures, c.in_err-r.was) c.from_residual.ensures
-
-pub returns-in_err-block : goal.returns-in_err-block
-unfolding footer_start
-returns-in_err-block c =
-    rw (← c.requires, ← c.footer_line.ensures, c.in_ok-r.was, ← c.get.ensures, c.in_err-block.was) c.from_residual-in_err-block.ensures
-
-pub returns-in_err-c : goal.returns-in_err-c
-unfolding footer_start
-returns-in_err-c c =
-    let a = c.args in
-    rw (
-      ← c.requires,
-      ← c.footer_line.ensures,
-      c.in_ok-r.was,
-      ← c.get.ensures,
-      c.in_ok-block.was,
-      stands_unsaid a.image.now a.edition c.in_ok-block.block (sym c.said_at.ensures ∙ c.in_err-c.was),
-    )
-    c.from_residual-in_err-c.ensures
 
 chosen : (b : Bool) (c : Chunk) → then_some b c ≡ cond b (Some c) None
 chosen true c = refl

@@ -20,19 +20,13 @@ returns-in_err-field c =
     c.from_residual.ensures ∙ sym (finish_bad l.fields c.args.line.now l.i bad) ∙ l.invariant.rest
 
 pub slice_bounds-name-count : goal.slice_bounds-name-count
-slice_bounds-name-count c =
-    let p = part_placed (sym c.in_ok-field.was ∙ c.field_at.ensures) in
-    omega (arith, p.after, p.before, p.inside)
+slice_bounds-name-count c = omega (arith, part_placed (sym c.in_ok-field.was ∙ c.field_at.ensures))
 
 pub slice_bounds-name-start : goal.slice_bounds-name-start
-slice_bounds-name-start c =
-    let p = part_placed (sym c.in_ok-field.was ∙ c.field_at.ensures) in
-    omega (arith, p.after, p.before, p.inside)
+slice_bounds-name-start c = omega (arith, part_placed (sym c.in_ok-field.was ∙ c.field_at.ensures))
 
 pub slice_bounds-name-end : goal.slice_bounds-name-end
-slice_bounds-name-end c =
-    let p = part_placed (sym c.in_ok-field.was ∙ c.field_at.ensures) in
-    omega (arith, p.after, p.before, p.inside)
+slice_bounds-name-end c = omega (arith, part_placed (sym c.in_ok-field.was ∙ c.field_at.ensures))
 
 pub repeats-requires : goal.repeats-requires
 repeats-requires c =
@@ -61,16 +55,6 @@ returns-then-field-line c =
       | in_default w ↦ w.fields-is ∙ sym (put_other l.fields name c.in_ok-field.field.value (sym known ∙ w.in_default.is))
     ] in
     rw with_value (sym (finish_end _ line _ (omega arith))) ∙ sym (finish_put l.fields line l.i p c.repeats.ensures c.if-repeats.false) ∙ l.invariant.rest
-
-pub overflow_add-i : goal.overflow_add-i
-overflow_add-i c =
-    let p = part_placed (sym c.in_ok-field.was ∙ c.field_at.ensures) in
-    omega (arith, p.after, p.before, p.inside)
-
-pub loop-field-smaller : goal.loop-field-smaller
-loop-field-smaller c =
-    let p = part_placed (sym c.in_ok-field.was ∙ c.field_at.ensures) in
-    omega (arith, p.after, p.before, p.inside)
 
 pub loop-field-preserved : goal.loop-field-preserved
 loop-field-preserved c =

@@ -4,9 +4,6 @@ use Rattle.line.specs.Reading.{place_of, seen}
 use Rattle.line.specs.SlotLaws.{place_slot, place_small, known_some, known_none}
 use Rattle.line.proofs.read.repeats.Goals as goal
 
-pub returns-then-apart : goal.returns-then-apart
-returns-then-apart c = sym (c.requires.apart c.if-apart.true)
-
 pub returns-in-Some : goal.returns-in-Some
 unfolding seen
 returns-in-Some c =

@@ -12,19 +12,13 @@ returns-in_default c =
     sym (ends_bad a.edition a.line.now a.n alone (sym c.in_default.is ∙ c.field_at.ensures))
 
 pub slice_bounds-same_bytes-count : goal.slice_bounds-same_bytes-count
-slice_bounds-same_bytes-count c =
-    let p = part_placed (sym c.in-Some.is ∙ c.field_at.ensures) in
-    omega (arith, p.after, p.before, p.inside)
+slice_bounds-same_bytes-count c = omega (arith, part_placed (sym c.in-Some.is ∙ c.field_at.ensures))
 
 pub slice_bounds-same_bytes-start : goal.slice_bounds-same_bytes-start
-slice_bounds-same_bytes-start c =
-    let p = part_placed (sym c.in-Some.is ∙ c.field_at.ensures) in
-    omega (arith, p.after, p.before, p.inside)
+slice_bounds-same_bytes-start c = omega (arith, part_placed (sym c.in-Some.is ∙ c.field_at.ensures))
 
 pub slice_bounds-same_bytes-end-2 : goal.slice_bounds-same_bytes-end-2
-slice_bounds-same_bytes-end-2 c =
-    let p = part_placed (sym c.in-Some.is ∙ c.field_at.ensures) in
-    omega (arith, p.after, p.before, p.inside)
+slice_bounds-same_bytes-end-2 c = omega (arith, part_placed (sym c.in-Some.is ∙ c.field_at.ensures))
 
 pub slice_bounds-sum_text-end : goal.slice_bounds-sum_text-end
 slice_bounds-sum_text-end c =

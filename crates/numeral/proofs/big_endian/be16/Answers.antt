@@ -1,30 +1,13 @@
-use Prim.Native.Nat.{◌+◌}
-use mathlib.Core.Path.{sym}
+use mathlib.Core.Path.{sym, ◌∙◌}
 use native.Mathlib.Omega.{arith}
-use Rattle.numeral.specs.BigEndianLaws.{big_endian_at_past, big_endian_at_two}
+use Rattle.std.specs.Int.{w16}
+use Rattle.numeral.specs.BigEndianLaws.{from_be_bytes_at, big_endian_at_past}
 use Rattle.numeral.proofs.big_endian.be16.Goals as goal
 
-pub returns-then-s-lt2 : goal.returns-then-s-lt2
-returns-then-s-lt2 c = sym (big_endian_at_past 2 _ _ (omega arith))
+pub returns-in-Some : goal.returns-in-Some
+returns-in-Some c =
+    let is = rw c.in-Some.is at c.bytes_at.ensures in
+    c.from_be_bytes.ensures ∙ rw is.1 (from_be_bytes_at w16 c.args.s.now c.args.at (omega arith) is.0)
 
-pub returns-then-s-at : goal.returns-then-s-at
-returns-then-s-at c = sym (big_endian_at_past 2 _ _ (omega arith))
-
-pub overflow_cast-high : goal.overflow_cast-high
-overflow_cast-high c = omega (arith, c.type_inv.s c.args.at)
-
-pub overflow_cast-low : goal.overflow_cast-low
-overflow_cast-low c = omega (arith, c.type_inv.s (c.args.at + 1))
-
-pub overflow_mul-result : goal.overflow_mul-result
-overflow_mul-result c =
-    let at = c.args.at in
-    omega (arith, c.type_inv.s at, c.type_inv.s (at + 1))
-
-pub overflow_add-result : goal.overflow_add-result
-overflow_add-result c =
-    let at = c.args.at in
-    omega (arith, c.type_inv.s at, c.type_inv.s (at + 1))
-
-pub returns : goal.returns
-returns c = sym (big_endian_at_two _ _ (omega arith))
+pub returns-in-None : goal.returns-in-None
+returns-in-None c = sym (big_endian_at_past 2 _ _ (rw c.in-None.is at c.bytes_at.ensures))

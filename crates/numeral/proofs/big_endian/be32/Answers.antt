@@ -1,13 +1,13 @@
-use mathlib.Core.Path.{sym}
+use mathlib.Core.Path.{sym, ◌∙◌}
 use native.Mathlib.Omega.{arith}
-use Rattle.numeral.specs.BigEndianLaws.{big_endian_at_past, big_endian_at_add}
+use Rattle.std.specs.Int.{w32}
+use Rattle.numeral.specs.BigEndianLaws.{from_be_bytes_at, big_endian_at_past}
 use Rattle.numeral.proofs.big_endian.be32.Goals as goal
 
-pub returns-then-s-lt4 : goal.returns-then-s-lt4
-returns-then-s-lt4 c = sym (big_endian_at_past 4 _ _ (omega arith))
+pub returns-in-Some : goal.returns-in-Some
+returns-in-Some c =
+    let is = rw c.in-Some.is at c.bytes_at.ensures in
+    c.from_be_bytes.ensures ∙ rw is.1 (from_be_bytes_at w32 c.args.s.now c.args.at (omega arith) is.0)
 
-pub returns-then-s-at : goal.returns-then-s-at
-returns-then-s-at c = sym (big_endian_at_past 4 _ _ (omega arith))
-
-pub returns : goal.returns
-returns c = rw (c.be16-high.ensures, c.be16-low.ensures) (sym (big_endian_at_add 2 2 _ _ (omega arith)))
+pub returns-in-None : goal.returns-in-None
+returns-in-None c = sym (big_endian_at_past 4 _ _ (rw c.in-None.is at c.bytes_at.ensures))

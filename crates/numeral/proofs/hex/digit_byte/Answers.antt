@@ -1,8 +1,9 @@
+use native.Mathlib.Omega.{arith}
 use borrow.Author.Tests.{lt-ltb, le-ltb}
 use Rattle.numeral.proofs.hex.digit_byte.Goals as goal
 
 pub returns-then-d-lt10 : goal.returns-then-d-lt10
-returns-then-d-lt10 c = rw (lt-ltb _ 10 c.if-d-lt10.true)
+returns-then-d-lt10 c = rw (lt-ltb _ 10 c.if-d-lt10.true) (omega arith)
 
 pub returns-else-d-lt10 : goal.returns-else-d-lt10
-returns-else-d-lt10 c = rw (le-ltb _ 10 c.if-d-lt10.false)
+returns-else-d-lt10 c = rw (le-ltb _ 10 c.if-d-lt10.false) (omega arith)

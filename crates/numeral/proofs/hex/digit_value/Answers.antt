@@ -1,19 +1,23 @@
+use Prim.Native.Nat.{◌+◌, ◌-◌}
+use Rattle.std.specs.Prelude.{◌≡◌}
 use mathlib.Core.Path.{sym}
 use native.Mathlib.Omega.{arith}
-use Rattle.numeral.specs.HexLaws.{digit_of_decimal, digit_of_letter, digit_of_other}
+use Rattle.numeral.specs.HexLaws.{said_decimal, said_letter, said_other}
 use Rattle.numeral.proofs.hex.digit_value.Goals as goal
 
-pub returns-then-b-lt48 : goal.returns-then-b-lt48
-returns-then-b-lt48 c = sym (digit_of_other _ (λ l h. omega arith) (λ l h. omega arith))
+pub returns-in-48-to-57 : goal.returns-in-48-to-57
+returns-in-48-to-57 c = rw (c.from.ensures, said_decimal c.args.b (omega arith) (omega arith))
 
-pub returns-then-b-le57 : goal.returns-then-b-le57
-returns-then-b-le57 c = sym (digit_of_decimal _ (omega arith) (omega arith))
+pub returns-in-97-to-102 : goal.returns-in-97-to-102
+returns-in-97-to-102 c =
+    let e : c.args.b - 97 + 10 ≡ c.args.b - 87 = omega arith in
+    rw (c.from-in-97-to-102.ensures, e, said_letter c.args.b (omega arith) (omega arith))
 
-pub returns-then-b-lt97 : goal.returns-then-b-lt97
-returns-then-b-lt97 c = sym (digit_of_other _ (λ l h. omega arith) (λ l h. omega arith))
+pub returns-in_default : goal.returns-in_default
+returns-in_default c = sym (said_other _ (λ l h. omega arith) (λ l h. omega arith))
 
-pub returns-then-b-le102 : goal.returns-then-b-le102
-returns-then-b-le102 c = sym (digit_of_letter _ (omega arith) (omega arith))
+pub returns-in_default-2 : goal.returns-in_default-2
+returns-in_default-2 c = sym (said_other _ (λ l h. omega arith) (λ l h. omega arith))
 
-pub returns : goal.returns
-returns c = sym (digit_of_other _ (λ l h. omega arith) (λ l h. omega arith))
+pub returns-in_default-3 : goal.returns-in_default-3
+returns-in_default-3 c = sym (said_other _ (λ l h. omega arith) (λ l h. omega arith))

@@ -1,7 +1,7 @@
 use native.Mathlib.Omega.{arith}
 use Rattle.refusal.proofs.Passing.{handed_up}
 use Rattle.std.proofs.Common.{◌∙◌}
-use Rattle.store.specs.TallyLaws.{tallied_refused, tallied_unsound, tallied_sum, fits_passed}
+use Rattle.store.specs.TallyLaws.{tallied_refused, tallied_unsound, tallied_sum}
 use Rattle.store.proofs.examining.tally.Goals as goal
 
 pub returns-in_err-a : goal.returns-in_err-a
@@ -13,16 +13,6 @@ pub returns-then-a-count : goal.returns-then-a-count
 returns-then-a-count c =
     let a = c.args in
     tallied_unsound a.r a.count c.in_ok-a.was c.if-a-count.true
-
-pub overflow_add-result : goal.overflow_add-result
-overflow_add-result c =
-    let a = c.args in
-    omega (arith, (fits_passed a.r c.requires c.in_ok-a.was).0)
-
-pub overflow_add-result-2 : goal.overflow_add-result-2
-overflow_add-result-2 c =
-    let a = c.args in
-    omega (arith, (fits_passed a.r c.requires c.in_ok-a.was).1)
 
 pub returns : goal.returns
 returns c =

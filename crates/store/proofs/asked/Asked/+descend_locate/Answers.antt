@@ -81,7 +81,7 @@ settled t c =
     let asked = seen c.self.inside c.self.view_is in
     let after = seen c.self-2.inside (c.self-2.view_is ∙ c.descend-f.ensures.0) in
     tells_settled _ _ _ _ _ _ (rw asked.1 at c.if-c-newest.false) c.if-q-eq0.false c.requires (rw (after.0, after.1) at c.self-2.invariant) _
-    (rw c.chunk_key-key.ensures (padded_text 22 (chunk_key c.args.c))) (rw (c.metadata-m.ensures, asked.1) at c.descend-f.ensures.1) _ _
+    (rw (c.text.ensures, c.chunk_key-key.ensures) (padded_text 22 (chunk_key c.args.c))) (rw (c.metadata-m.ensures, asked.1) at c.descend-f.ensures.1) _ _
     (rw (after.0, asked.1) at c.settle.ensures.0) c.settle.ensures.1
 
 pub locate-invariant_of-self : goal.locate-invariant_of-self

@@ -3,7 +3,7 @@ use mathlib.Core.Path.{refl, sym, ◌∙◌, ap}
 use native.Mathlib.Omega.{arith}
 use Rattle.refusal.proofs.Passing.{handed_up}
 use Rattle.store.specs.Examining.{over_children}
-use Rattle.store.specs.ExamineLaws.{examined_deep, examined_refused, page_refused, page_leaf, page_under}
+use Rattle.store.specs.ExamineLaws.{examined_deep, page_refused, page_leaf, page_under}
 use Rattle.store.specs.CameLaws.{came_first, came_fits, came_stopped, came_last, came_on, over_fits}
 use Rattle.store.specs.MemoryLaws.{seen}
 use Rattle.store.proofs.asked.Asked.+examine_children_examine_page.Goals as goal
@@ -75,63 +75,55 @@ examine_page-returns-then-levels-eq0 t c = (
   examined_deep _ _ _ _ c.args.levels c.args.top c.args.span c.args.p.bits c.if-levels-eq0.true,
 )
 
-pub examine_page-returns-in_err-page : goal.examine_page-returns-in_err-page
-examine_page-returns-in_err-page t c =
-    let e = c.read_page.ensures in (
-      e.0,
-      handed_up c.from_residual.ensures ∙ examined_refused _ _ _ _ c.args.levels c.args.top c.args.span c.args.p.bits
-          c.if-levels-eq0.false e.1 c.in_err-page.was,
-    )
-
 pub examine_page-returns-in_err-report : goal.examine_page-returns-in_err-report
 examine_page-returns-in_err-report t c =
-    let e = c.read_page.ensures in
+    let e = c.read_page-page.ensures in
     let read_in = seen c.self.inside (c.self.view_is ∙ e.0) in
     let part = rw (read_in.0, read_in.1) at c.part_at.ensures in (
       e.0,
-      handed_up c.from_residual-in_err-report.ensures ∙ page_refused _ _ _ _ c.args.levels c.args.top c.args.span c.args.p.bits
-          c.if-levels-eq0.false (sym c.in_ok-page.was ∙ e.1) part c.in_err-report.was,
+      handed_up c.from_residual.ensures ∙ page_refused _ _ _ _ c.args.levels c.args.top c.args.span c.args.p.bits
+          c.if-levels-eq0.false e.1 part c.in_err-report.was,
     )
 
 pub examine_page-returns-in-Leaf : goal.examine_page-returns-in-Leaf
 examine_page-returns-in-Leaf t c =
-    let e = c.read_page.ensures in
+    let e = c.read_page-page.ensures in
     let read_in = seen c.self.inside (c.self.view_is ∙ e.0) in
     let part = rw (read_in.0, read_in.1) at c.part_at.ensures in (
       e.0,
       page_leaf _ _ _ _ c.args.levels c.args.top c.args.span c.args.p.bits
-          c.if-levels-eq0.false (sym c.in_ok-page.was ∙ e.1) part (rw c.in-Leaf.is at c.in_ok-report.was),
+          c.if-levels-eq0.false e.1 part (rw c.in-Leaf.is at c.in_ok-report.was),
     )
 
 pub examine_page-examine_children-requires : goal.examine_page-examine_children-requires
 examine_page-examine_children-requires t c =
     let g = c.requires in
     let if1 = c.if-levels-eq0 in
-    let e = c.read_page.ensures in
+    let e = c.read_page-page.ensures in
     let read_in = seen c.self.inside (c.self.view_is ∙ e.0) in
     let part = rw (read_in.0, read_in.1) at c.part_at.ensures in
     let u = page_under _ _ _ _ c.args.levels c.args.top c.args.span c.args.p.bits
-    if1.false (sym c.in_ok-page.was ∙ e.1) part (rw c.in-Children.is at c.in_ok-report.was) in
+    if1.false e.1 part (rw c.in-Children.is at c.in_ok-report.was) in
     (omega (arith, if1.false), (omega (arith, g, if1.false), rw e.0 u.all))
 
 pub examine_page-over_children-requires : goal.examine_page-over_children-requires
 examine_page-over_children-requires t c =
     let if1 = c.if-levels-eq0 in
-    let e = c.read_page.ensures in
+    let e = c.read_page-page.ensures in
     let read_in = seen c.self.inside (c.self.view_is ∙ e.0) in
     let part = rw (read_in.0, read_in.1) at c.part_at.ensures in
     let u = page_under _ _ _ _ c.args.levels c.args.top c.args.span c.args.p.bits
-    if1.false (sym c.in_ok-page.was ∙ e.1) part (rw c.in-Children.is at c.in_ok-report.was) in
+    if1.false e.1 part (rw c.in-Children.is at c.in_ok-report.was) in
     over_fits _ _ _ _ (c.args.levels - 1) c.in-Children.inner c.args.span.lo c.args.span.hi
     (omega (arith, c.requires, if1.false))
     u.all (rw e.0 at c.examine_children.ensures.1)
 
 pub examine_page-returns-in-Children : goal.examine_page-returns-in-Children
 examine_page-returns-in-Children t c =
-    let e = c.read_page.ensures in
+    let e = c.read_page-page.ensures in
     let read_in = seen c.self.inside (c.self.view_is ∙ e.0) in
     let part = rw (read_in.0, read_in.1) at c.part_at.ensures in
-    let f = rw c.read_page.ensures.0 at c.examine_children.ensures in
+    let f = rw c.read_page-page.ensures.0 at c.examine_children.ensures in
     let u = page_under _ _ _ _ c.args.levels c.args.top c.args.span c.args.p.bits
-    c.if-levels-eq0.false (sym c.in_ok-page.was ∙ e.1) part (rw c.in-Children.is at c.in_ok-report.was) in
+    c.if-levels-eq0.false e.1 part (rw c.in-Children.is at c.in_ok-report.was) in
     (f.0, c.over_children.ensures ∙ ap over_children f.1 ∙ u.children)

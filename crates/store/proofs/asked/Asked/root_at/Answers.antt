@@ -15,4 +15,4 @@ returns c =
     let asked = seen c.self.inside c.self.view_is in
     let after = seen c.self-2.inside (c.self-2.view_is ∙ c.descend-f.ensures.0) in
     let found = rw (c.metadata-m.ensures, c.asked_root-root.ensures, asked.1) at c.descend-f.ensures.1 in
-    (c.descend-f.ensures.0, rw after.0 at c.root_by.ensures ∙ root_sought _ _ _ _ found _ c.if-map-eq0.false (rw c.root_key-key.ensures (padded_text 22 (root_key c.args.map))))
+    (c.descend-f.ensures.0, rw after.0 at c.root_by.ensures ∙ root_sought _ _ _ _ found _ c.if-map-eq0.false (rw (c.text.ensures, c.root_key-key.ensures) (padded_text 22 (root_key c.args.map))))
