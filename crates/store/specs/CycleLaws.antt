@@ -24,8 +24,6 @@ use Rattle.opening.specs.declared.Store.{Store}
 use Rattle.page.specs.declared.Place.{Place}
 use Rattle.content.specs.declared.Entry.{Entry}
 use Rattle.content.specs.Content.{page_in}
-use Rattle.memory.specs.declared.Recalled.TheVariants as recalled
-use Rattle.memory.specs.Words.{recalled_in}
 use Rattle.metadata.specs.declared.Location.{Location}
 use Rattle.metadata.specs.declared.Answer.{Answer}
 use Rattle.metadata.specs.declared.descent.Advance.{Advance}
@@ -35,7 +33,6 @@ use Rattle.metadata.specs.Keys.{chunk_key}
 use Rattle.store.specs.Store.{metadata}
 use Rattle.store.specs.Memory.{RightWords}
 use Rattle.store.specs.Memory.{IsLocation, IsAnswer}
-use Rattle.store.specs.MemoryLaws.{recalled_known}
 use Rattle.store.specs.SettleLaws.{settled_tells, settled_right}
 use Rattle.metadata.specs.Descent.{step_of, advance_by, advance_of}
 use Rattle.store.specs.Steps.{settled_location, settled_words}
@@ -51,14 +48,14 @@ module _ (image : List ℕ) (store : Store) where
     unfolding IsLocation
     tells_ninth other e = rw e (ninth_refused (metadata image store) other)
 
-    module _ {ws : List ℕ} (right : RightWords image store ws) {l : Place} {n : ℕ} (e : recalled_in ws c ≡ recalled.At l n) where
+    module _ {l : Place} {n : ℕ} (known : Known (metadata image store) c l n) where
       pub tells_few : q < n → IsLocation image store q c (Err ninth_question)
       unfolding IsLocation
-      tells_few h = gated_shut (recalled_known image store right c e) q h
+      tells_few h = gated_shut known q h
 
       pub tells_recalled : n ≤ q → IsLocation image store q c (Ok (record { place = l; need = n }))
       unfolding IsLocation
-      tells_recalled h = (h, recalled_known image store right c e)
+      tells_recalled h = (h, known)
 
   -- by the metadata's answer, and the memory after it
   module _ (q c : ℕ) (ws : List ℕ) (f : Outcome Answer) (other : ¬ (c ≡ store.newest.id)) (some_left : ¬ (q ≡ 0)) (few : q ≤ 8)

@@ -3,12 +3,9 @@ ghost use Rattle.std.specs.Prelude.{◌≡◌};
 ghost use Rattle.key.specs.Key.{key_of};
 ghost use Rattle.tree.specs.Asking.{map_count};
 ghost use Rattle.store.specs.Store.{pages_of};
-ghost use Rattle.store.specs.Memory.{RightWords};
 ghost use Rattle.store.specs.Asking.{lookup_in, index_in, count_in, value_of, fetched_of};
 
-use super::fetch::fetch_from;
-use super::locate::descend;
-use super::read::{read_page, root_at};
+use super::asked::Asked;
 use super::room::{MANY, with_words};
 use super::{Map, QUESTIONS};
 use content::Entry;
@@ -20,17 +17,44 @@ use position::Position;
 use refusal::Refusal;
 use text::Spot;
 
-fn lookup_with(
-    image: &[u8],
-    memory: &mut [u64],
-    m: Map,
-    key: &[u8],
-) -> Result<Option<Spot>, Refusal>
-    requires { RightWords image.now m.store memory.old }
-    ensures { result ≡ value_of (lookup_in image.now m.store m.id m.kind (key_of m.kind key.now)) }
-{
-    let root = root_at(image, m.store, memory, m.id)?;
-    value_by(descend(image, memory, m, root, key, QUESTIONS))
+impl<'a> Asked<'a> {
+    fn lookup(&mut self, key: &[u8]) -> Result<Option<Spot>, Refusal>
+        ensures { result ≡ value_of (lookup_in self.old.image self.old.map.store self.old.map.id self.old.map.kind (key_of self.old.map.kind key.now)) }
+    {
+        let m = self.map;
+        let root = self.root_at(m.id)?;
+        value_by(self.descend(m.id, m.kind, root, key, QUESTIONS))
+    }
+
+    fn index(&mut self, index: u64) -> Result<Entry, Refusal>
+        ensures { result ≡ fetched_of (index_in self.old.image self.old.map.store self.old.map.id self.old.map.kind index) }
+    {
+        let m = self.map;
+        let root = self.root_at(m.id)?;
+        self.fetch_from(root, index)
+    }
+
+    // How many entries the page at the root has or records.
+    fn count_from(&mut self, root: Position) -> Result<u64, Refusal>
+        ensures { result ≡ map_count (pages_of self.old.image self.old.map) root.bits }
+    {
+        if root.is_empty() {
+            return Ok(0);
+        }
+        match self.read_page(root)? {
+            Judged::Leaf(leaf) => Ok(leaf.n as u64),
+            Judged::Inner(inner) => Ok(inner.total),
+        }
+    }
+
+    // How many entries the map has, by its root.
+    fn count(&mut self) -> Result<u64, Refusal>
+        ensures { result ≡ count_in self.old.image self.old.map.store self.old.map.id self.old.map.kind }
+    {
+        let m = self.map;
+        let root = self.root_at(m.id)?;
+        self.count_from(root)
+    }
 }
 
 // The value of `key` in the map, if it has one.
@@ -48,15 +72,7 @@ pub fn lookup(
         id: map,
         kind,
     };
-    with_words(image, |memory| lookup_with(image, memory, m, key))
-}
-
-fn index_with(image: &[u8], memory: &mut [u64], m: Map, index: u64) -> Result<Entry, Refusal>
-    requires { RightWords image.now m.store memory.old }
-    ensures { result ≡ fetched_of (index_in image.now m.store m.id m.kind index) }
-{
-    let root = root_at(image, m.store, memory, m.id)?;
-    fetch_from(image, memory, m, root, index)
+    with_words(image, |words| Asked::new(image, m, words).lookup(key))
 }
 
 // The entry numbered `index` of the map, from 0.
@@ -68,21 +84,7 @@ pub fn index(image: &[u8], store: Store, map: u32, kind: Kind, index: u64) -> Re
         id: map,
         kind,
     };
-    with_words(image, |memory| index_with(image, memory, m, index))
-}
-
-// How many entries the page at the root has or records.
-fn count_from(image: &[u8], memory: &mut [u64], m: Map, root: Position) -> Result<u64, Refusal>
-    requires { RightWords image.now m.store memory.old }
-    ensures { result ≡ map_count (pages_of image.now m) root.bits }
-{
-    if root.is_empty() {
-        return Ok(0);
-    }
-    match read_page(image, memory, m, root)? {
-        Judged::Leaf(leaf) => Ok(leaf.n as u64),
-        Judged::Inner(inner) => Ok(inner.total),
-    }
+    with_words(image, |words| Asked::new(image, m, words).index(index))
 }
 
 // How many entries the map has, by its root.
@@ -95,6 +97,5 @@ pub fn count(image: &[u8], store: Store, map: u32, kind: Kind) -> Result<u64, Re
         kind,
     };
     let mut memory = [0u64; MANY];
-    let root = root_at(image, store, &mut memory, map)?;
-    count_from(image, &mut memory, m, root)
+    Asked::new(image, m, &mut memory).count()
 }

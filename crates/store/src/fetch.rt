@@ -2,11 +2,9 @@
 ghost use Rattle.std.specs.Prelude.{◌≡◌};
 ghost use Rattle.tree.specs.Asking.{map_index};
 ghost use Rattle.store.specs.Store.{pages_of};
-ghost use Rattle.store.specs.Memory.{RightWords};
 ghost use Rattle.store.specs.Asking.{turn_of, fetched_of};
 
-use super::Map;
-use super::read::read_page;
+use super::asked::Asked;
 use content::Entry;
 use key::Kind;
 use page::Judged;
@@ -44,31 +42,26 @@ fn turn_at(image: &[u8], kind: Kind, page: Judged, index: u64) -> Result<Turn, R
     }
 }
 
-// The entry numbered `index` of the map whose root is given: one page a turn, at most 16.
-pub(crate) fn fetch_from(
-    image: &[u8],
-    memory: &mut [u64],
-    m: Map,
-    root: Position,
-    index: u64,
-) -> Result<Entry, Refusal>
-    requires { RightWords image.now m.store memory.old }
-    ensures { result ≡ fetched_of (map_index (pages_of image.now m) index root.bits) }
-{
-    if root.is_empty() {
-        return Err(Refusal::Index);
-    }
-    let mut p = root;
-    let mut left = index;
-    for _ in 0..16u32 {
-        let page = read_page(image, memory, m, p)?;
-        match turn_at(image, m.kind, page, left)? {
-            Turn::Child { position, rest } => {
-                p = position;
-                left = rest;
-            }
-            Turn::Done(entry) => return Ok(entry),
+impl<'a> Asked<'a> {
+    // The entry numbered `index` of the map whose root is given: one page a turn, at most 16.
+    pub(crate) fn fetch_from(&mut self, root: Position, index: u64) -> Result<Entry, Refusal>
+        ensures { result ≡ fetched_of (map_index (pages_of self.old.image self.old.map) index root.bits) }
+    {
+        if root.is_empty() {
+            return Err(Refusal::Index);
         }
+        let mut p = root;
+        let mut left = index;
+        for _ in 0..16u32 {
+            let page = self.read_page(p)?;
+            match turn_at(self.image, self.map.kind, page, left)? {
+                Turn::Child { position, rest } => {
+                    p = position;
+                    left = rest;
+                }
+                Turn::Done(entry) => return Ok(entry),
+            }
+        }
+        Err(Refusal::TooDeep)
     }
-    Err(Refusal::TooDeep)
 }

@@ -3,6 +3,7 @@
 #![tactic(auto)]
 
 mod ask;
+mod asked;
 mod down;
 mod examining;
 mod fetch;
@@ -17,14 +18,14 @@ ghost use Rattle.metadata.specs.Answers.{root_said};
 ghost use Rattle.store.specs.Store.{metadata_map, chunk_at, named_map, map_root};
 
 pub use ask::{count, index, lookup};
+use asked::Asked;
 pub use examining::examine;
 use key::Kind;
-use locate::{descend, locate};
 use metadata::{NAME, id_by, located_by, name_key};
 use opening::Store;
 use page::Place;
 use position::Position;
-use read::{asked_root, root_at};
+use read::asked_root;
 use refusal::Refusal;
 use room::MANY;
 pub use walking::advance;
@@ -58,7 +59,8 @@ pub fn chunk_place(image: &[u8], store: Store, chunk: u32) -> Result<Place, Refu
     ensures { result ≡ chunk_at image.now store 8 chunk }
 {
     let mut memory = [0u64; MANY];
-    located_by(locate(image, store, &mut memory, chunk, QUESTIONS))
+    let mut asked = Asked::new(image, Map::metadata(store), &mut memory);
+    located_by(asked.locate(chunk, QUESTIONS))
 }
 
 // The id of the map that has a name.
@@ -72,7 +74,8 @@ pub fn map_id(image: &[u8], store: Store, name: &[u8]) -> Result<u32, Refusal>
     let m = Map::metadata(store);
     let root = asked_root(store);
     let mut memory = [0u64; MANY];
-    let f = descend(image, &mut memory, m, root, key.text(), QUESTIONS);
+    let mut asked = Asked::new(image, m, &mut memory);
+    let f = asked.descend(m.id, m.kind, root, key.text(), QUESTIONS);
     id_by(image, f)
 }
 
@@ -81,5 +84,6 @@ pub fn map_root(image: &[u8], store: Store, map: u32) -> Result<Position, Refusa
     ensures { root_said result ≡ map_root image.now store map }
 {
     let mut memory = [0u64; MANY];
-    root_at(image, store, &mut memory, map)
+    let mut asked = Asked::new(image, Map::metadata(store), &mut memory);
+    asked.root_at(map)
 }

@@ -10,18 +10,18 @@ use refusal::Refusal;
 // What the metadata's answer says of chunk `n`, which is one question more; where the chunk stands, it
 // is remembered.
 pub(crate) fn settle(
+    words: &mut [u64],
     image: &[u8],
     edition: Edition,
-    memory: &mut [u64],
     n: u32,
     f: Result<Answer, Refusal>,
 ) -> Result<Location, Refusal>
     requires { need_of f ≤ 7 }
-    ensures { (result ≡ settled_location image.now edition n f) × (memory.new ≡ settled_words n memory.old result) }
+    ensures { (result ≡ settled_location image.now edition n f) × (words.new ≡ settled_words n words.old result) }
 {
     let l = location_by(image, edition, n, f)?;
     let need = l.need + 1;
-    memory::remember(memory, n, l.place, need);
+    memory::remember(words, n, l.place, need);
     Ok(Location {
         place: l.place,
         need,
