@@ -7,7 +7,7 @@ mod texts;
 ghost use Rattle.std.specs.Prelude.{◌≡◌};
 ghost use Rattle.std.specs.Int.{w64};
 ghost use Rattle.std.proofs.Common.{to_z};
-ghost use Rattle.order.specs.Order.{compare_int};
+ghost use Rattle.order.specs.Order.{compare_int, compare_nat};
 ghost use Rattle.key.specs.Key.{key_at, well_formed, key_of, compare_keys};
 ghost use Rattle.key.specs.Raised.{raised};
 
@@ -25,18 +25,21 @@ pub enum Kind {
 // The longest text key, as a limit: its length is below this.
 pub const TEXT_LIMIT: u64 = 1025;
 
-// A number key at `at`: 8 bytes.
+// A number key at `at`: 8 bytes. With two tests, of which the compiler learns that the bytes stand there; a
+// sum that is checked costs an examination a sixth.
 #[inline(always)]
 pub fn number_at(s: &[u8], at: usize) -> Option<Sized>
     ensures { result ≡ key_at Kind.Number s.now at }
 {
-    let next = at.checked_add(8)?;
-    if s.len() < next {
+    if s.len() < 8 {
+        return None;
+    }
+    if s.len() - 8 < at {
         return None;
     }
     Some(Sized {
         spot: Spot { at, len: 8 },
-        next,
+        next: at + 8,
     })
 }
 
@@ -73,10 +76,12 @@ pub fn well_formed(kind: Kind, key: &[u8]) -> bool
     }
 }
 
-// Two number keys by their 64 bits, which are those of signed numbers.
+// Two number keys by their 64 bits, which are those of signed numbers; raised by 2^63 they are in the
+// order of these.
 #[inline(always)]
 pub fn compare_numbers(a: u64, b: u64) -> Ordering
-    ensures { result ≡ compare_int (to_z w64 a) (to_z w64 b) }
+    ensures signed { result ≡ compare_int (to_z w64 a) (to_z w64 b) }
+    ensures raised { result ≡ compare_nat (raised a) (raised b) }
 {
     a.cast_signed().cmp(&b.cast_signed())
 }
