@@ -8,12 +8,15 @@ use opening::View;
 use refusal::Refusal;
 use text::Spot;
 
-// Writes the bytes of the image at a spot to the start of the area.
+// Writes the bytes of the image at a spot to the start of the area. One by one: `copy_from_slice` would have
+// the archive need `memmove` of whoever links it.
 fn put(area: &mut [u8], image: &[u8], spot: Spot)
     requires { (spot.at + spot.len ≤ length image.now) × (spot.len ≤ length area.old) }
     ensures { area.new ≡ take spot.len (drop spot.at image.now) ++ drop spot.len area.old }
 {
-    area[..spot.len].copy_from_slice(&image[spot.at..spot.at + spot.len]);
+    for i in 0..spot.len {
+        area[i] = image[spot.at + i];
+    }
 }
 
 // The value of `key`, which is also written to the area's start. On a refusal and where there is none
