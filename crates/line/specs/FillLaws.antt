@@ -7,7 +7,7 @@ use Rattle.std.specs.Prelude.{ℕ, zero, suc, ◌≤◌, ◌<◌, ◌≡◌, Boo
 use Rattle.std.specs.Option.{option_or}
 use Rattle.std.proofs.Math.Path.{refl, sym}
 use Rattle.std.proofs.Common.{◌∙◌, ap, arith, length-set, get_or-set_same, get_or-set_other, ext_get_or}
-use Rattle.std.proofs.Math.Bool.{true, false, cond, and-eq-true_iff}
+use Rattle.std.proofs.Math.Bool.{true, false, cond, or-false, and-eq-true_iff}
 use mathlib.Core.List.{List, [], ◌∷◌}
 use borrow.Author.Tests.{le-ltb, lt-ltb, ne_eqb, ltb-true, ltb-false, eqb-true, eqb-false, not-true}
 use Rattle.std.proofs.Math.Dec.{ltb}
@@ -92,6 +92,23 @@ fill_sized [] acc z = z
 fill_sized (f ∷ fs) acc z = fill_sized fs (added acc f) (put_sized acc (slot_of f.name) f.value z)
 
 module _ (k : ℕ) (h : k < 11) where
+  fill_given : (fs : List Named) (acc : Fields) → Sized acc →
+      is_some (get_or (fill acc fs).values k None) ≡ (is_some (get_or acc.values k None) || has (get_or known k []) fs)
+  unfolding fill has
+  fill_given [] acc z = sym (or-false (is_some (get_or acc.values k None)))
+  fill_given (f ∷ fs) acc z =
+      rw (
+        fill_given fs (added acc f) (put_sized acc (slot_of f.name) f.value z),
+        put_value acc (slot_of f.name) f.value k (λ q. omega arith) z,
+        same_known k f.name h,
+      )
+      (go (eqb (slot_of f.name) k) (get_or acc.values k None) (has (get_or known k []) fs))
+    where
+      go : (a : Bool) (o : Option ℕ) (b : Bool) → (is_some (cond a (Some f.value) o) || b) ≡ (is_some o || (a || b))
+      go true (Some v) b = refl
+      go true None b = refl
+      go false o b = refl
+
   fill_value : (fs : List Named) (acc : Fields) → Sized acc → none_twice fs ≡ true →
       get_or (fill acc fs).values k None ≡ option_or (value_in (get_or known k []) fs) (get_or acc.values k None)
   unfolding fill value_in none_twice

@@ -23,7 +23,7 @@ pub enum Name {
 }
 
 impl Name {
-    pub const ALL: [Name; 11] = [
+    pub const ALL: [Name; Fields::NAMES] = [
         Name::H,
         Name::BlockSize,
         Name::Format,
@@ -48,10 +48,13 @@ impl Name {
 // What a line says of each known name, in the order of the names: its value, where it is given.
 #[derive(Clone, Copy, Debug, PartialEq, Eq)]
 pub struct Fields {
-    values: [Option<u64>; 11],
+    pub values: [Option<u64>; 11],
 }
 
 impl Fields {
+    // How many names there are.
+    pub const NAMES: usize = 11;
+
     // The value of a name, if it is given.
     pub fn get(&self, name: Name) -> Option<u64>
         ensures { result ≡ value_of self.now (text_of name) }

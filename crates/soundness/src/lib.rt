@@ -34,9 +34,9 @@ pub struct Child {
 
 // A separator as a bound, with the place after it.
 #[derive(Clone, Copy, Debug, PartialEq, Eq)]
-struct Separator {
-    bound: Option<Spot>,
-    next: usize,
+pub struct Separator {
+    pub bound: Option<Spot>,
+    pub next: usize,
 }
 
 // A leaf: only the root may be empty.

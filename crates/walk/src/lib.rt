@@ -14,6 +14,9 @@ use map::Item;
 use opening::View;
 use refusal::Refusal;
 
+// The highest number of the table of refusals.
+pub const TABLE: u32 = 16;
+
 // A step: the state after it, and the entry that it yields, if one is left.
 #[derive(Clone, Copy, Debug, PartialEq, Eq)]
 pub struct Step {
