@@ -6,7 +6,7 @@ use cursor::Walk;
 use key::Kind;
 use opening::{Store, View};
 use refusal::Refusal;
-use std::io::{self, Read};
+use std::io::{self, ErrorKind, Read};
 use tree::Report;
 
 // Input over this many bytes is refused.
@@ -60,13 +60,22 @@ fn list(rt: &impl Print, image: &[u8], map: Examined) -> io::Result<()> {
     list_entries(rt, image, map)
 }
 
+// A read or a write that fails is passed over: the image ends there, and what is not written is lost. Want
+// of memory is not.
+fn passed_over(done: io::Result<()>) -> io::Result<()> {
+    match done {
+        Err(e) if e.kind() == ErrorKind::OutOfMemory => Err(e),
+        _ => Ok(()),
+    }
+}
+
 fn main(rt: HostRuntime) -> io::Result<()> {
     // One byte more than an image may have.
     let mut input = rt.reader().take(MOST_BYTES as u64 + 1);
     let mut image = Vec::new(rt.alloc());
-    input.read_to_end(&mut image)?;
-    match forces(&image) {
+    passed_over(input.read_to_end(&mut image).map(|_| ()))?;
+    passed_over(match forces(&image) {
         Ok(map) => list(&rt, &image, map),
         Err(refusal) => println!(rt; "{refusal}"),
-    }
+    })
 }

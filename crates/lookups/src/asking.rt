@@ -46,7 +46,7 @@ fn page(command: Command<'_>, image: &[u8], store: Store) -> Result<Answer, Refu
 // What a question is answered in an image that is opened for it.
 pub fn answer(command: Command<'_>, image: &[u8], edition: u64) -> Result<Answer, Refusal> {
     let store = viewing::open(image, View { edition })?;
-    match command.word(0) {
+    match command.name() {
         "open" => Ok(Answer::Newest(store.newest)),
         "map" => map(command, image, store),
         "root" => root(command, image, store),

@@ -38,15 +38,15 @@ impl Images {
 
     // The image as it stands is the base from now on.
     pub fn keep(&mut self) -> Result<(), AllocError> {
-        self.base = self.image.clone()?;
-        Ok(())
+        self.base.clear();
+        self.base.extend_from_slice(&self.image)
     }
 
     // An image begins as a copy of the base.
     pub fn like(&mut self) -> Result<(), AllocError> {
-        self.image = self.base.clone()?;
         self.edition = 1;
-        Ok(())
+        self.image.clear();
+        self.image.extend_from_slice(&self.base)
     }
 
     // `put PLACE HEX`: bytes placed in the image, as many as fit.

@@ -26,18 +26,28 @@ mod images;
 
 use command::Command;
 use images::Images;
-use std::io::{self, BufRead, BufReader};
+use std::io::{self, ErrorKind, Read, Write};
+
+// The most bytes of the input; what comes after them is not read.
+const MOST_INPUT: usize = 1000000;
+
+// An image begins: its name.
+fn begun(rt: &impl Print, name: &[u8]) -> io::Result<()> {
+    let mut to = io::writer(rt);
+    to.write_all(name)?;
+    to.write_all(b"\n")
+}
 
 // Makes the images by a command, or answers it.
 fn take(rt: &impl Print, command: Command<'_>, images: &mut Images) -> io::Result<()> {
-    match command.word(0) {
+    match command.name() {
         "image" => {
             images.begin(command.number(2))?;
-            println!(rt; "{}", command.word(1))?;
+            begun(rt, command.word(1))?;
         }
         "like" => {
             images.like()?;
-            println!(rt; "{}", command.word(1))?;
+            begun(rt, command.word(1))?;
         }
         "keep" => images.keep()?,
         "put" => images.put(command),
@@ -51,12 +61,29 @@ fn take(rt: &impl Print, command: Command<'_>, images: &mut Images) -> io::Resul
     Ok(())
 }
 
-fn main(rt: HostRuntime) -> io::Result<()> {
-    let alloc = rt.alloc();
-    let mut images = Images::new(alloc);
-    for line in BufReader::new(alloc, rt.reader())?.lines(alloc) {
-        let line = line?;
-        take(&rt, Command::new(&line), &mut images)?;
+// A read or a write that fails is passed over: the input ends there, and the next answer is written all
+// the same. Want of memory is not.
+fn passed_over(done: io::Result<()>) -> io::Result<()> {
+    match done {
+        Err(e) if e.kind() == ErrorKind::OutOfMemory => Err(e),
+        _ => Ok(()),
+    }
+}
+
+// From line to line, which no range counts.
+fn take_all(rt: &impl Print, input: &[u8], images: &mut Images) -> io::Result<()> {
+    let mut at = 0;
+    while at < input.len() {
+        passed_over(take(rt, Command::new(script::line(input, at)), images))?;
+        at = script::next_line(input, at);
     }
     Ok(())
+}
+
+fn main(rt: HostRuntime) -> io::Result<()> {
+    let mut images = Images::new(rt.alloc());
+    let mut input = Vec::with_capacity(rt.alloc(), MOST_INPUT)?;
+    let mut reader = rt.reader().take(MOST_INPUT as u64);
+    passed_over(reader.read_to_end(&mut input).map(|_| ()))?;
+    take_all(&rt, &input, &mut images)
 }

@@ -12,7 +12,10 @@ mod positions;
 mod question;
 
 use question::Question;
-use std::io::{self, BufRead, BufReader};
+use std::io::{self, ErrorKind, Read};
+
+// The most bytes of the input; what comes after them is not read.
+const MOST_INPUT: u64 = 65536;
 
 // One answer line. A question that is not known is answered by `?`.
 fn answer(rt: &(impl Print + AllocGlobal), question: Question<'_>) -> io::Result<()> {
@@ -42,11 +45,28 @@ fn yes_or_no(holds: bool) -> &'static str {
     if holds { "yes" } else { "no" }
 }
 
-fn main(rt: HostRuntime) -> io::Result<()> {
-    let alloc = rt.alloc();
-    for line in BufReader::new(alloc, rt.reader())?.lines(alloc) {
-        let line = line?;
-        answer(&rt, Question::new(&line))?;
+// A read or a write that fails is passed over: the input ends there, and the next answer is written all
+// the same. Want of memory is not.
+fn passed_over(done: io::Result<()>) -> io::Result<()> {
+    match done {
+        Err(e) if e.kind() == ErrorKind::OutOfMemory => Err(e),
+        _ => Ok(()),
+    }
+}
+
+// From line to line, which no range counts.
+fn answer_all(rt: &(impl Print + AllocGlobal), questions: &[u8]) -> io::Result<()> {
+    let mut at = 0;
+    while at < questions.len() {
+        passed_over(answer(rt, Question::new(script::line(questions, at))))?;
+        at = script::next_line(questions, at);
     }
     Ok(())
+}
+
+fn main(rt: HostRuntime) -> io::Result<()> {
+    let mut questions = Vec::new(rt.alloc());
+    let mut input = rt.reader().take(MOST_INPUT);
+    passed_over(input.read_to_end(&mut questions).map(|_| ()))?;
+    answer_all(&rt, &questions)
 }
