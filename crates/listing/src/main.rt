@@ -40,7 +40,7 @@ fn list_entries(rt: &impl Print, image: &[u8], map: Examined) -> io::Result<()> 
             break;
         };
         let key = numeral::be64(image, entry.key.at).cast_signed();
-        println!(rt; "{key} {}", entry.value.len)?;
+        passed_over(println!(rt; "{key} {}", entry.value.len))?;
         walk = step.walk;
     }
     Ok(())
@@ -48,20 +48,20 @@ fn list_entries(rt: &impl Print, image: &[u8], map: Examined) -> io::Result<()> 
 
 fn list(rt: &impl Print, image: &[u8], map: Examined) -> io::Result<()> {
     let chunk = map.store.newest;
-    println!(rt;
+    passed_over(println!(rt;
         "chunk {} block {} version {}",
         chunk.id, chunk.block, chunk.version
-    )?;
+    ))?;
     let report = map.report;
-    println!(rt;
+    passed_over(println!(rt;
         "map {} entries {} pages {} depth {}",
         map.id, report.entries, report.pages, report.depth
-    )?;
+    ))?;
     list_entries(rt, image, map)
 }
 
-// A read or a write that fails is passed over: the image ends there, and what is not written is lost. Want
-// of memory is not.
+// A read or a write that fails is passed over: the image ends there, and the next line is written all the
+// same. Want of memory is not.
 fn passed_over(done: io::Result<()>) -> io::Result<()> {
     match done {
         Err(e) if e.kind() == ErrorKind::OutOfMemory => Err(e),
@@ -74,8 +74,8 @@ fn main(rt: HostRuntime) -> io::Result<()> {
     let mut input = rt.reader().take(MOST_BYTES as u64 + 1);
     let mut image = Vec::new(rt.alloc());
     passed_over(input.read_to_end(&mut image).map(|_| ()))?;
-    passed_over(match forces(&image) {
+    match forces(&image) {
         Ok(map) => list(&rt, &image, map),
-        Err(refusal) => println!(rt; "{refusal}"),
-    })
+        Err(refusal) => passed_over(println!(rt; "{refusal}")),
+    }
 }
